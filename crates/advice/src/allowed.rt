@@ -1,4 +1,4 @@
-//! Warnings that a line allows.
+//! Warnings and remarks that a comment in their line allows, which are not told.
 
 ghost use Rattle.std.specs.Prelude.{◌≡◌, ◌<◌, length};
 ghost use Rattle.std.specs.List.{prefix_len};
@@ -6,7 +6,8 @@ ghost use Rattle.advice.specs.Allowed.{is_code, comment_of, is_in_word, word, af
 
 use messages::message::{Diagnostic, line_of};
 
-/// Whether the line of a diagnostic ends in a comment as `# allow W6`, with its number among the words.
+/// Whether a diagnostic's line ends in a comment that allows the diagnostic, as `# allow W6` does
+/// where its number is `W6`. False where the diagnostic has no place.
 pub fn is_allowed(text: &[u8], diagnostic: &Diagnostic) -> bool
     ensures { result ≡ is_allowed text.now diagnostic.now }
 {
@@ -19,21 +20,21 @@ pub fn is_allowed(text: &[u8], diagnostic: &Diagnostic) -> bool
     }
 }
 
-// Whether a byte begins no comment.
+// Whether a byte is code: any byte but `#`, with which the comment of a line begins.
 fn is_code(byte: u8) -> bool
     ensures { result ≡ is_code byte }
 {
     byte != b'#'
 }
 
-// How many bytes come before the comment of a line, or all where there is none.
+// How many bytes of a line come before its comment; all of them where it has no comment.
 fn code_length(line: &[u8]) -> usize
     ensures { result ≡ prefix_len is_code line.now }
 {
     line.iter().take_while(|byte| is_code(**byte)).count()
 }
 
-// The comment that a line ends in; nothing where it has none.
+// The comment that a line ends in, from the `#` on; empty where it has none.
 fn comment_of(line: &[u8]) -> &[u8]
     ensures { result.now ≡ comment_of line.now }
 {
@@ -41,7 +42,7 @@ fn comment_of(line: &[u8]) -> &[u8]
     comment
 }
 
-// Whether a comment, as `# allow W6 W9`, allows the warnings of a number, as `W9`.
+// Whether a comment, as `# allow W6 W9`, allows the diagnostics of a number, as `W9`.
 fn allows(comment: &[u8], number: &[u8]) -> bool
     ensures { result ≡ allows comment.now number.now }
 {
@@ -50,21 +51,21 @@ fn allows(comment: &[u8], number: &[u8]) -> bool
     mark == b"#".as_slice() && allow == b"allow".as_slice() && has_word(rest, number)
 }
 
-// Whether a byte is no white space.
+// Whether a byte may be in a word: it is no white space.
 fn is_in_word(byte: u8) -> bool
     ensures { result ≡ is_in_word byte }
 {
     !byte.is_ascii_whitespace()
 }
 
-// How many bytes of a text come before its first white space.
+// How many bytes of a text come before its first white space; all of them where it has none.
 fn word_length(text: &[u8]) -> usize
     ensures { result ≡ prefix_len is_in_word text.now }
 {
     text.iter().take_while(|byte| is_in_word(**byte)).count()
 }
 
-// The first word of a text, white space before it left out, and what follows the word.
+// The first word of a text, without the white space before it, and the text after the word.
 fn first_word(text: &[u8]) -> (&[u8], &[u8])
     ensures word { result.0.now ≡ word text.now }
     ensures after { result.1.now ≡ after_word text.now }
@@ -73,7 +74,7 @@ fn first_word(text: &[u8]) -> (&[u8], &[u8])
     text.split_at(word_length(text))
 }
 
-// Whether a word is one of the words of a text.
+// Whether a word is one of the words that white space divides a text into.
 fn has_word(text: &[u8], word: &[u8]) -> bool
     ensures { result ≡ has_word text.now word.now }
 {
@@ -85,7 +86,8 @@ fn has_word(text: &[u8], word: &[u8]) -> bool
     false
 }
 
-// Whether a word is at a place of a text, with white space or an end of the text on both sides.
+// Whether a word of a text is at the index `at`: its bytes are, and white space or an end of the
+// text is on each side.
 fn is_word_at(text: &[u8], word: &[u8], at: usize) -> bool
     requires { at < length text.now }
     ensures { result ≡ is_word_at text.now word.now at }
@@ -96,7 +98,7 @@ fn is_word_at(text: &[u8], word: &[u8], at: usize) -> bool
         && is_blank_at(rest, word.len())
 }
 
-// Whether white space is at a place of a text, or the end of the text.
+// Whether there is white space in a text at the index `at`, or the text has ended there.
 fn is_blank_at(text: &[u8], at: usize) -> bool
     ensures { result ≡ is_blank_at text.now at }
 {

@@ -16,15 +16,19 @@ use std::alloc::AllocError;
 /// A program, and where its parts are in its text.
 #[derive(Clone, Copy)]
 pub struct Compiled<'a> {
+    /// The tree that the text spells.
     pub tree: &'a Tree,
+    /// The tree's program.
     pub program: &'a Program,
+    /// The places of the program's instructions, and the names of its locals.
     pub map: &'a SourceMap,
+    /// The pieces of the text.
     pub pieces: &'a [Piece<'a>],
     ghost fits: { IsMapOf map.now program.now },
 }
 
 impl<'a> Compiled<'a> {
-    /// The code of a thread; none where there is no thread of the number.
+    /// The code of the thread of a number; empty where there is no such thread.
     pub fn code(&self, thread: u8) -> &'a [Instruction] {
         if thread < self.program.threads() {
             self.program.code(thread)
@@ -33,7 +37,8 @@ impl<'a> Compiled<'a> {
         }
     }
 
-    /// The place of an instruction of a thread; the start of the text where there is none.
+    /// The place in the text of a thread's instruction at an index; the start of the text where
+    /// there is no such instruction.
     pub fn place(&self, thread: u8, at: usize) -> Pos {
         if thread < self.program.threads() && at < self.program.code(thread).len() {
             return self.map.place(thread, at);
@@ -41,7 +46,7 @@ impl<'a> Compiled<'a> {
         START
     }
 
-    /// The name of a thread; nothing where there is no thread of the number.
+    /// The name of the thread of a number; empty where there is no such thread.
     pub fn thread_name(&self, thread: u8) -> &'a str {
         if thread < self.program.threads() {
             text_of(self.program.thread_name(thread))
@@ -50,7 +55,7 @@ impl<'a> Compiled<'a> {
         }
     }
 
-    /// The name of a local of a thread; nothing where there is no local of the number.
+    /// The name of a thread's local of a number; empty where there is no such local.
     pub fn local_name(&self, thread: u8, local: usize) -> &'a str {
         if thread < self.program.threads() && local < self.program.locals(thread) {
             text_of(self.map.local(thread, local))
@@ -59,8 +64,12 @@ impl<'a> Compiled<'a> {
         }
     }
 
-    /// Adds to `all` a diagnostic of the piece at a place, under a number and name as `W9 MayLack`,
-    /// unless `all` has one of that number at that place.
+    /// Adds to `all` a diagnostic on the piece at a place, of this severity, and of this number and
+    /// name, as `W9 MayLack`; unless `all` has one with all of these and the same place.
+    ///
+    /// # Errors
+    ///
+    /// `AllocError` where memory runs out.
     pub fn add_diagnostic(
         &self,
         all: &mut Vec<Diagnostic>,
@@ -68,7 +77,7 @@ impl<'a> Compiled<'a> {
         at: Pos,
         message: Message,
     ) -> Result<(), AllocError> {
-        let headline = format!(in message.alloc(); "{severity} {name} at {at}")?;
+        let headline = format!(in message.allocator(); "{severity} {name} at {at}")?;
         if !all.iter().any(|diagnostic| diagnostic.headline == headline) {
             let span = span_at(self.pieces, at);
             all.push(message.into_diagnostic(severity, headline, Some(span)))?;

@@ -1,39 +1,40 @@
-//! Warnings with their places.
+//! The warnings of `lint`, with their places, as diagnostics.
 
 use crate::compiled::Compiled;
-use crate::remarks::title_and_words;
+use crate::warning_words::title_and_words;
+use guest_code::kinds::{NameKind, kind_of};
 use guest_syntax::place::Pos;
 use guest_syntax::tree::Tree;
-use hints::declared::DeclaredKind;
-use hints::pieces::{START, is_boundary, piece_number_at};
+use hints::pieces::{START, is_boundary, piece_index_at};
 use lint::uses::Use;
 use lint::warning::{Warning, WarningKind};
 use lint::warnings::all_warnings;
 use messages::message::{Diagnostic, Severity};
 use std::alloc::AllocError;
 
-// A warning, and the place that the warning marks.
+// A warning, and the place in the text at which it is told.
 #[derive(Clone, Copy)]
 struct Finding {
     warning: Warning,
     at: Pos,
 }
 
-// What a warning of a kind is of; which local, instruction or object, the warning's number says.
+// What the warnings of a kind are about: locals, instructions or objects. The number of a warning
+// says which of them.
 enum Subject {
-    /// A local of a thread, at the first statement that makes this use of the local.
+    /// A local of a thread; its place is in the first statement that makes this use of it.
     Local(u8, Use),
     /// An instruction of a thread.
     Instruction(u8),
     /// An object of this kind.
-    Object(DeclaredKind),
+    Object(NameKind),
 }
 
-// What a kind of warnings is of.
+// What the warnings of a kind are about, and of which thread.
 fn subject_of(kind: WarningKind) -> Subject {
     match kind {
         WarningKind::NeverSet(thread) => Subject::Local(thread, Use::Reads),
-        WarningKind::NeverRead(thread) => Subject::Local(thread, Use::Fills),
+        WarningKind::NeverRead(thread) => Subject::Local(thread, Use::OnlySets),
         WarningKind::Constant(thread)
         | WarningKind::Unreached(thread)
         | WarningKind::MayKeep(thread)
@@ -42,41 +43,45 @@ fn subject_of(kind: WarningKind) -> Subject {
         | WarningKind::WaitNotLookedAtAgain(thread)
         | WarningKind::WaitsElsewhere(thread) => Subject::Instruction(thread),
         WarningKind::UnusedVariable | WarningKind::NeverStored | WarningKind::NeverLoaded => {
-            Subject::Object(DeclaredKind::Variable)
+            Subject::Object(NameKind::Variable)
         }
-        WarningKind::UnusedMutex => Subject::Object(DeclaredKind::Mutex),
+        WarningKind::UnusedMutex => Subject::Object(NameKind::Mutex),
         WarningKind::UnusedCondition | WarningKind::NeverSignalled | WarningKind::NeverWaitedFor =>
-            { Subject::Object(DeclaredKind::Condition) }
+            { Subject::Object(NameKind::Condition) }
         WarningKind::UnusedSemaphore | WarningKind::NeverReleased => Subject::Object(
-            DeclaredKind::Semaphore,
+            NameKind::Semaphore,
         ),
     }
 }
 
-// Where object `number` of a kind is declared; the start of the text where there is none.
-fn declaration_place(tree: &Tree, kind: DeclaredKind, number: usize) -> Pos {
+// The place of the declared name of an object, by its kind and its number: those of a kind have
+// numbers from 0 on, in the order of the text. The start of the text where there is no such object.
+fn declaration_place(tree: &Tree, kind: NameKind, number: usize) -> Pos {
     let objects = tree.declarations().iter();
-    let mut of_kind = objects.filter(|object| DeclaredKind::from(object.object) == kind);
+    let mut of_kind = objects.filter(|object| kind_of(object.object) == kind);
     of_kind.nth(number).map_or(START, |object| object.name.at)
 }
 
 impl Compiled<'_> {
-    // The place of the first instruction of a thread that makes a use of a local.
+    // The place of the first instruction of a thread that makes this use of a local; that of the
+    // thread's first instruction where none does.
     fn first_use_place(&self, thread: u8, use_: Use, local: usize) -> Pos {
         let mut code = self.code(thread).iter();
         let first = code.position(|instruction| use_.is_made(local, instruction));
         self.place(thread, first.unwrap_or(0))
     }
 
-    // The place of a name in the statement at a place; that place itself where the name isn't there.
+    // The first place of a name in the statement that begins at `at`; `at` itself where the
+    // statement doesn't have the name.
     fn name_place(&self, at: Pos, name: &str) -> Pos {
-        let pieces = self.pieces.iter().skip(piece_number_at(self.pieces, at));
+        let pieces = self.pieces.iter().skip(piece_index_at(self.pieces, at));
         let mut statement = pieces.take_while(|piece| !is_boundary(piece));
         let found = statement.find(|piece| piece.text == name.as_bytes());
         found.map_or(at, |piece| piece.at)
     }
 
-    // A warning with its place: of a local its name, else the statement or the declaration.
+    // A warning with its place: that of the name, for a local, of the statement, for an
+    // instruction, or of the declared name, for an object.
     fn finding_of(&self, warning: Warning) -> Finding {
         let number = warning.number;
         let at = match subject_of(warning.kind) {
@@ -90,9 +95,10 @@ impl Compiled<'_> {
         Finding { warning, at }
     }
 
-    // Whether a finding is reported: a W7 or W14 only where all copies of its statement have one. Else
-    // some copy is reached; or a `wait` is looked at again but for its copy in the last turn of a
-    // `repeat`, which never is.
+    // Whether a finding is reported. A statement in a `repeat` has a copy in the flat code for each
+    // turn. `Unreached` and `WaitNotLookedAtAgain` are reported only where they are found of all
+    // copies: another copy may be reached, and the copy of a `wait` in the last turn always lacks
+    // a turn after it that tests a value.
     fn is_reported(&self, all: &[Finding], found: Finding) -> bool {
         let kind = found.warning.kind;
         let (WarningKind::Unreached(thread) | WarningKind::WaitNotLookedAtAgain(thread)) = kind
@@ -105,7 +111,11 @@ impl Compiled<'_> {
         all.iter().filter(is_such).count() == copies
     }
 
-    /// Adds the warnings of the program, of each statement each kind once.
+    /// Adds to `all` the diagnostics of the program's warnings, each kind once for each place.
+    ///
+    /// # Errors
+    ///
+    /// `AllocError` where memory runs out.
     pub fn add_warnings(&self, all: &mut Vec<Diagnostic>) -> Result<(), AllocError> {
         let alloc = *all.allocator();
         let warnings = all_warnings(alloc, self.program)?;

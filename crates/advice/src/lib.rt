@@ -3,10 +3,11 @@
 //! - [`check`] answers why a text is refused, or the warnings of its program: a text is refused
 //!   exactly where it spells no tree or its tree has a fault, and the short form and the place are
 //!   those of the refusal.
-//! - The warnings are those of `lint`; here they get their places and their words. With a depth, what
-//!   `lint` saw in schedules is told too.
-//! - [`advice_text`] answers the lines that `messages` defines: carets lie under the bytes that are
-//!   meant. Above those lines is told where a mark says that the marked line comes from.
+//! - The warnings are those of `lint`; here they get their places and their words. With a depth, it
+//!   is also told what `lint` saw in schedules of the program.
+//! - [`advice_text`] answers the lines of diagnostics that `messages` defines, with carets under
+//!   the bytes in question. Above a diagnostic comes the file and line that its line comes from,
+//!   where a preprocessor's mark in the text tells it.
 //!
 //! Which words a diagnostic has, and all that schedules show, is shown by tests.
 #![tactic(auto)]
@@ -25,16 +26,16 @@ ghost use Rattle.advice.specs.Told.{Tells, is_warning, is_warned, checked_lines}
 
 mod allowed;
 mod compiled;
-mod depths;
+mod explored;
 mod findings;
-mod origin;
-mod remarks;
+mod lines;
 mod spins;
+mod warning_words;
 
 use crate::allowed::is_allowed;
 use crate::compiled::Compiled;
-pub use crate::depths::Depth;
-use crate::origin::{put_all, put_diagnostic};
+pub use crate::explored::Depth;
+use crate::lines::{put_diagnostic, put_diagnostics};
 use guest_code::error::CheckError;
 use guest_code::lowering::lower;
 use guest_code::program::Program;
@@ -57,7 +58,7 @@ pub enum Checked {
 }
 
 impl Checked {
-    /// Whether the text is a program, and there is a warning.
+    /// Whether the text is a program with at least one warning; remarks are none.
     pub fn is_warned(&self) -> bool
         ensures { result ≡ is_warned self.now }
     {
@@ -68,15 +69,16 @@ impl Checked {
     }
 }
 
-// Whether some diagnostic is a warning.
+// Whether at least one of the diagnostics is a warning.
 fn has_warning(all: &[Diagnostic]) -> bool
     ensures { result ≡ list_any (λ a. is_warning a.severity) all.now }
 {
     all.iter().any(|diagnostic| matches!(diagnostic.severity, Severity::Warning))
 }
 
-/// Why a text is refused, or what is odd about its program, in the order of the text. With a depth,
-/// schedules of the program are gone through, and what they show is told too.
+/// Why a text is refused, or else what is odd about its program, in the order of the text. With a
+/// depth, schedules of the program are explored, up to as many as the depth says, and it is also
+/// told what they show.
 ///
 /// # Errors
 ///
@@ -86,12 +88,13 @@ pub fn check(alloc: Global, text: &[u8], depth: Option<Depth>) -> Result<Checked
 {
     match parse(alloc, text) {
         Ok(tree) => check_tree(alloc, text, depth, &tree),
-        Err(error) => refused_text(alloc, text, error),
+        Err(error) => syntax_refusal(alloc, text, error),
     }
 }
 
-// That memory ran out, or why a text that spells no tree is refused with this error.
-fn refused_text(alloc: Global, text: &[u8], error: SyntaxError) -> Result<Checked, AllocError>
+// What a check finds where the text spells no tree: that it is refused, with the diagnostic on this
+// error. Fails where the error is that memory ran out, or where memory runs out.
+fn syntax_refusal(alloc: Global, text: &[u8], error: SyntaxError) -> Result<Checked, AllocError>
     requires refused { error ≢ syntax.OutOfMemory → (t : Tree) → Spells text.now t → ⊥ }
     requires place { RefusalIn start text.now error }
     ensures { IfOk result (Tells text.now) }
@@ -105,8 +108,9 @@ fn refused_text(alloc: Global, text: &[u8], error: SyntaxError) -> Result<Checke
     }
 }
 
-// That memory ran out, or why a tree, which the text spells, is refused with this error.
-fn refused_tree(
+// What a check finds where the tree of the text is no program: that the text is refused, with the
+// diagnostic on this error. Fails where the error is that memory ran out, or where it runs out.
+fn check_refusal(
     alloc: Global,
     text: &[u8],
     tree: &SyntaxTree,
@@ -125,7 +129,8 @@ fn refused_tree(
     }
 }
 
-// Why a text that spells this tree is refused, or what is odd about its program.
+// What a check finds where the text spells this tree: why it is refused, or what is odd about its
+// program. With a depth, what schedules of the program show, too.
 fn check_tree(
     alloc: Global,
     text: &[u8],
@@ -140,11 +145,12 @@ fn check_tree(
             let all = all_diagnostics(alloc, text, depth, tree, &program)?;
             Ok(Checked::Sound(all))
         }
-        Err(error) => refused_tree(alloc, text, tree, error),
+        Err(error) => check_refusal(alloc, text, tree, error),
     }
 }
 
-// All warnings and remarks on the program of a tree that no comment allows, in the order of the text.
+// The warnings and remarks on the program of a tree, in the order of the text, without those that a
+// comment of their line allows.
 fn all_diagnostics(
     alloc: Global,
     text: &[u8],
@@ -175,7 +181,7 @@ fn all_diagnostics(
     Ok(all)
 }
 
-/// The lines of what a check of a text found, for standard error.
+/// The lines to print on standard error of what a check of a text found.
 ///
 /// # Errors
 ///
@@ -187,7 +193,7 @@ pub fn advice_text(alloc: Global, text: &[u8], checked: &Checked) -> Result<Vec<
     let mut out = Vec::new(alloc);
     match checked {
         Checked::Refused(diagnostic) => put_diagnostic(&mut out, text, &marks, diagnostic)?,
-        Checked::Sound(all) => put_all(&mut out, text, &marks, all)?,
+        Checked::Sound(all) => put_diagnostics(&mut out, text, &marks, all)?,
     }
     Ok(out)
 }

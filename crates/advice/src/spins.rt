@@ -1,10 +1,10 @@
-//! The loops of a program that a `leave` may end.
+//! The loops of a program that a `leave` may end, as those that spin until a value changes.
 
 use crate::compiled::Compiled;
 use guest_code::program::Instruction;
 use guest_syntax::pieces::Piece;
 use guest_syntax::place::Pos;
-use hints::pieces::{closing_piece, is_before, piece_number_at};
+use hints::pieces::{closing_piece, is_before, piece_index_at};
 use lint::spin::Spin;
 use std::alloc::{AllocError, Global};
 
@@ -16,7 +16,8 @@ struct Block {
     close: Pos,
 }
 
-// The block of the `repeat` whose keyword is a piece, if the block lies round the piece `inside`.
+// The block of the `repeat` at the index `keyword` of the pieces, if the later index `inside` is
+// before the block's end. `None` if it isn't, or if the piece at `keyword` is no `repeat`.
 fn block_around(pieces: &[Piece<'_>], keyword: usize, inside: usize) -> Option<Block> {
     let repeat = pieces.get(keyword)?;
     if !matches!(repeat.text, b"repeat") {
@@ -31,9 +32,10 @@ fn block_around(pieces: &[Piece<'_>], keyword: usize, inside: usize) -> Option<B
     })
 }
 
-// The nearest `repeat` round the `leave` at a place, which it leaves; none where no `leave` is there.
-fn block_left(pieces: &[Piece<'_>], at: Pos) -> Option<Block> {
-    let number = piece_number_at(pieces, at);
+// The block that the `leave` at a place leaves: that of the innermost `repeat` round it. `None`
+// where no `leave` is there.
+fn block_of_leave(pieces: &[Piece<'_>], at: Pos) -> Option<Block> {
+    let number = piece_index_at(pieces, at);
     if !matches!(pieces.get(number)?.text, b"leave") {
         return None;
     }
@@ -43,11 +45,12 @@ fn block_left(pieces: &[Piece<'_>], at: Pos) -> Option<Block> {
 }
 
 impl Compiled<'_> {
-    // For each instruction of a thread, whether it is in a block and none of the block's own `leave`s.
+    // For each instruction of a thread, whether it is in a block, but no `leave` that leaves the
+    // block.
     fn in_block(&self, alloc: Global, thread: u8, block: Block) -> Result<Vec<bool>, AllocError> {
         let is_inside = |at: usize| {
             let place = self.place(thread, at);
-            let left = block_left(self.pieces, place);
+            let left = block_of_leave(self.pieces, place);
             is_before(block.open, place)
                 && is_before(place, block.close)
                 && left.is_none_or(|left| left.keyword != block.keyword)
@@ -55,7 +58,8 @@ impl Compiled<'_> {
         (0..self.code(thread).len()).map(is_inside).collect(alloc)
     }
 
-    // Adds the copies of each `repeat` of a thread that has a `leave`.
+    // Adds to `spins` the loops of a thread that a `leave` may end: each copy in its flat code of a
+    // `repeat` that has a `leave`. One inside another `repeat` has several copies.
     fn add_spins(
         &self,
         alloc: Global,
@@ -64,7 +68,7 @@ impl Compiled<'_> {
     ) -> Result<(), AllocError> {
         for (i, instruction) in self.code(thread).iter().enumerate() {
             if let Instruction::Skip(over) = instruction
-                && let Some(block) = block_left(self.pieces, self.place(thread, i))
+                && let Some(block) = block_of_leave(self.pieces, self.place(thread, i))
             {
                 let at = block.keyword;
                 let exit = i.saturating_add(1).saturating_add(*over);
@@ -85,7 +89,12 @@ impl Compiled<'_> {
         Ok(())
     }
 
-    /// The copies of each `repeat` of the program that has a `leave`.
+    /// The loops of the program that a `leave` may end: each copy in the flat code of a `repeat`
+    /// that has a `leave`. One inside another `repeat` has several copies.
+    ///
+    /// # Errors
+    ///
+    /// `AllocError` where memory runs out.
     pub fn spins(&self, alloc: Global) -> Result<Vec<Spin>, AllocError> {
         let mut spins = Vec::new(alloc);
         for thread in 0..self.program.threads() {

@@ -1,4 +1,4 @@
-//! What is answered to what was asked, as a value: the bytes for each stream, and the status.
+//! Answers to requests on one guest program: the bytes for each stream, and the status.
 
 ghost use Rattle.std.specs.Prelude.{◌≡◌, ◌++◌, codes, IfOk};
 ghost use Rattle.report.specs.ReportText.{report_text};
@@ -31,7 +31,7 @@ pub struct Printed {
 }
 
 impl Printed {
-    /// The text of a report, a line feed, and the status of its verdict.
+    /// What is printed of a report: its text, a line feed, and the status of its verdict.
     ///
     /// # Errors
     ///
@@ -49,7 +49,8 @@ impl Printed {
     }
 }
 
-/// The trace of the schedule that `schedule` spells in the program that `text` spells.
+/// Replays the schedule that `schedule` spells in the program that `text` spells: its trace, and
+/// the status of how it ends.
 ///
 /// # Errors
 ///
@@ -80,8 +81,8 @@ pub fn replay_status(kind: Option<Kind>) -> u8
     }
 }
 
-/// The report of a search of the program that `text` spells, by as many workers as `exploration`
-/// says, and a line feed.
+/// Searches the program that `text` spells, by as many workers as `exploration` says: the report, a
+/// line feed, and the status of its verdict.
 ///
 /// # Errors
 ///
@@ -189,11 +190,11 @@ impl Answer {
         }
     }
 
-    /// Writes the bytes for standard error, which are the line of a fault or none, to `err`.
+    /// Writes the bytes for standard error to `err`: the line of a fault, or nothing.
     ///
     /// # Errors
     ///
-    /// What the writer answers.
+    /// The error of `err`, where it can't be written.
     pub fn write_error<E: Write>(&self, err: &mut E) -> io::Result<()>
         ensures { IsWritten result (E.contents err.old) (E.contents err.new) self.now.error }
     {
@@ -220,6 +221,7 @@ impl From<Fault> for Answer {
 
     ghost from_gives = { λ fault a. a ≡ answer_of (Err fault) };
 
+    // The answer that is this fault.
     fn from(fault: Fault) -> Answer {
         Answer { result: Err(fault) }
     }

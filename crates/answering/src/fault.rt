@@ -1,4 +1,4 @@
-//! Why a run of the program has no answer.
+//! Why the program has no answer to what it was asked.
 
 ghost use Rattle.std.specs.Prelude.{◌≡◌};
 ghost use Rattle.answering.specs.Status.{fault_status};
@@ -16,7 +16,8 @@ use std::{fmt, io};
 /// The status that the program ends with where what the user gave is refused.
 pub const REFUSED: u8 = 2;
 
-/// Why a run of the program has no answer. Faults are looked for in the order of the variants.
+/// Why the program has no answer to what it was asked. Faults are looked for in the order of the
+/// variants.
 #[derive(Debug, Drop)]
 pub enum Fault {
     /// The file can't be read, or the output can't be written.
@@ -44,18 +45,20 @@ impl Fault {
         }
     }
 
-    /// Writes the fault's line: the name of the program, what the user is told, and a line feed.
+    /// Writes the fault's line to `err`: the name of the program, the message for the user, and a
+    /// line feed.
     ///
     /// # Errors
     ///
-    /// What the writer answers.
+    /// The error of `err`, where it can't be written.
     pub fn write_line<E: Write>(&self, err: &mut E) -> io::Result<()>
         ensures { IsWritten result (E.contents err.old) (E.contents err.new) (fault_line self.now) }
     {
         writeln!(err, "ctxbound: {self}")
     }
 
-    /// Writes the fault's line, and answers the fault's status, which a failing `err` doesn't change.
+    /// Writes the fault's line to `err`, and answers the fault's status, whether or not `err`
+    /// fails.
     pub fn report<E: Write>(&self, err: &mut E) -> u8
         ensures { result ≡ fault_status self.now }
     {
@@ -64,8 +67,8 @@ impl Fault {
     }
 }
 
-/// What the user is told, after the name of the program: the kind of fault, the number and the name
-/// of a refusal, and its place.
+/// The message for the user, after the name of the program: the kind of fault, the number and the
+/// name of a refusal, and its place.
 impl fmt::Display for Fault {
     ghost use Rattle.std.specs.Prelude.{Some};
     ghost use Rattle.answering.specs.Lines.{fault_text};
@@ -92,6 +95,7 @@ impl From<SyntaxError> for Fault {
 
     ghost from_gives = { λ e fault. fault ≡ of_syntax e };
 
+    // Out of memory is the fault `Memory`, else the text is refused.
     fn from(error: SyntaxError) -> Fault {
         match error {
             SyntaxError::OutOfMemory => Fault::Memory,
@@ -106,6 +110,7 @@ impl From<CheckError> for Fault {
 
     ghost from_gives = { λ e fault. fault ≡ of_check e };
 
+    // Out of memory is the fault `Memory`, else the program is refused.
     fn from(error: CheckError) -> Fault {
         match error {
             CheckError::OutOfMemory => Fault::Memory,
@@ -120,6 +125,7 @@ impl From<ScheduleError> for Fault {
 
     ghost from_gives = { λ e fault. fault ≡ of_schedule e };
 
+    // Out of memory is the fault `Memory`, else the schedule's text is refused.
     fn from(error: ScheduleError) -> Fault {
         match error {
             ScheduleError::OutOfMemory => Fault::Memory,
@@ -134,6 +140,7 @@ impl From<ReplayError> for Fault {
 
     ghost from_gives = { λ e fault. fault ≡ of_replay e };
 
+    // Out of memory is the fault `Memory`, else a step of the schedule is refused.
     fn from(error: ReplayError) -> Fault {
         match error {
             ReplayError::OutOfMemory => Fault::Memory,
@@ -148,6 +155,7 @@ impl From<ExploreError> for Fault {
 
     ghost from_gives = { λ e fault. fault ≡ of_explore e };
 
+    // The fault of the text or of the program that the error has, or `Memory`.
     fn from(error: ExploreError) -> Fault {
         match error {
             ExploreError::Syntax(error) => Fault::from(error),
@@ -185,6 +193,7 @@ impl From<io::Error> for Fault {
 
     ghost from_gives = { λ e fault. IsDeviceFault (error_kind e) fault };
 
+    // Out of memory is the fault `Memory`, each other error of a device the fault `File`.
     fn from(error: io::Error) -> Fault {
         match error.kind() {
             ErrorKind::OutOfMemory => Fault::Memory,
@@ -205,7 +214,8 @@ pub enum CommandFault<'a> {
 }
 
 impl CommandFault<'_> {
-    /// Writes the fault's line, and answers the fault's status, which a failing `err` doesn't change.
+    /// Writes the fault's line to `err`, and answers the fault's status, whether or not `err`
+    /// fails.
     pub fn report<E: Write>(&self, err: &mut E) -> u8 {
         match self {
             CommandFault::Fault(fault) => fault.report(err),
@@ -228,6 +238,7 @@ impl<X> From<X> for CommandFault<'_>
 where
     Fault: From<X>,
 {
+    // The fault that the error becomes, with no device named.
     fn from(error: X) -> Self {
         CommandFault::Fault(Fault::from(error))
     }

@@ -9,12 +9,13 @@
 //!   Their contracts speak of nothing else.
 //! - [`Fault`] is why there is no answer, the line that tells so, and its status.
 //! - An [`Answer`] is all that is written, and the status. [`serve`] reads a text, answers and
-//!   writes; [`exit_status`] is the status that the program ends with then; [`serve_file`] does all that
-//!   with a file.
-//! - A [`CommandFault`] is why a command that names the device that failed printed nothing.
-//!   [`read_file`] reads the text of a file for such a command, and [`serve_printed`] writes what it
-//!   answers.
-//! - [`ProgressGate`] is the gate of the searches: where it is asked to, it tells how far they are.
+//!   writes; [`exit_status`] is the status that the program ends with then; [`serve_file`] does all
+//!   that with a file.
+//! - A [`CommandFault`] is why a command printed nothing. Unlike a [`Fault`] it may name the file
+//!   or the stream that failed. [`read_file`] reads the text of a file for such a command, and
+//!   [`write_printed`] writes what the command prints.
+//! - [`ProgressGate`] is the gate of a search: where it is asked to, it tells how far the search
+//!   is.
 #![tactic(auto)]
 
 mod answer;
@@ -38,5 +39,5 @@ pub use request::{
 };
 pub use serving::{
     STANDARD_OUTPUT, exit_status, is_standard_input, read_bytes, read_file, serve, serve_file,
-    serve_printed, write_out,
+    write_out, write_printed,
 };

@@ -81,10 +81,13 @@ impl<R: Eprint + Sync> Gate for ProgressGate<'_, R> {
 
     ghost stops = { λ _. false };
 
+    // False: the gate stops no worker.
     fn may_stop(&self) -> bool {
         false
     }
 
+    // Tells how far the search is, where that was asked for: once it is at a new bound, and once
+    // twice as many schedules were tried as when it told last.
     fn round_ended(&self, progress: Progress) {
         let bound = progress.bound.map_or(1, |bound| u64::from(bound) + 2);
         let is_new = self.told.swap(bound, Ordering::SeqCst) != bound;

@@ -29,8 +29,8 @@ pub enum Request {
 }
 
 impl Request {
-    /// The guest program's file, where `ctxbound check` says more of a refused text than this request
-    /// does: a person is told so then.
+    /// The name of the guest program's file, of a request after which a person is told, where the
+    /// text is refused, that `ctxbound check` says more. `None` of a check, a suite and a `verify`.
     pub fn guest_file(&self) -> Option<&str> {
         let file = match self {
             Request::Guest { file, .. } => file,

@@ -1,4 +1,4 @@
-//! One run of a program: a reader or a file, what is answered to its text, and two writers.
+//! Reading of a guest's text or a file, and writing of what is answered to it.
 
 ghost use Rattle.std.specs.Prelude.{◌≡◌, IfSome, IfOk, IfErr, MatchResult};
 ghost use Rattle.answering.specs.Answer.{IsOfDevice};
@@ -19,7 +19,8 @@ use std::{fs, io};
 /// The name of standard output in a fault's line.
 pub const STANDARD_OUTPUT: &str = "standard output";
 
-// The text of a guest program that `input` gives; of one that is too long, one byte more than may be.
+// Reads the text of a guest program from `input`; of a text that is too long, one byte more than a
+// program may have.
 fn read_text<R: Read>(alloc: Global, input: &mut R) -> io::Result<Vec<u8>>
     ensures { IfOk result (λ text. IfSome (R.remaining input.old) (IsPartRead text.items)) }
 {
@@ -28,11 +29,12 @@ fn read_text<R: Read>(alloc: Global, input: &mut R) -> io::Result<Vec<u8>>
     Ok(text)
 }
 
-/// Writes `output` to `out`, to be seen at once. Where it is empty, the device isn't touched.
+/// Writes all of `output` to `out`, and flushes it, so that it is seen at once. Where `output` is
+/// empty, `out` isn't touched.
 ///
 /// # Errors
 ///
-/// What the device answers.
+/// The error of `out`, where it can't be written.
 pub fn write_out<W: Write>(out: &mut W, output: &[u8]) -> io::Result<()>
     ensures { IsWritten result (W.contents out.old) (W.contents out.new) output.now }
 {
@@ -43,8 +45,8 @@ pub fn write_out<W: Write>(out: &mut W, output: &[u8]) -> io::Result<()>
     out.flush()
 }
 
-/// Does what `request` asks of the guest program that `input` gives. What the answer has for standard
-/// output is written to `out`, the line of a fault to `err`; the answer's status is given back.
+/// Does what `request` asks of the guest program whose text `input` gives. What the answer has for
+/// standard output is written to `out`, a fault's line to `err`. Answers the answer's status.
 ///
 /// # Errors
 ///
@@ -70,8 +72,8 @@ where
     Ok(answer.status())
 }
 
-/// The status that the program ends with: the answer's, where [`serve`] gave it back. Where a device
-/// failed the fault's line is written to `err`, and the status is the fault's.
+/// The status that the program ends with: the answer's, where [`serve`] answered it. Where a
+/// device failed the fault's line is written to `err`, and the status is the fault's.
 pub fn exit_status<E: Write>(served: Result<u8, Fault>, err: &mut E) -> u8
     ensures { MatchResult served (λ status. result ≡ status)
         (λ fault. result ≡ fault_status fault) }
@@ -87,7 +89,8 @@ pub fn is_standard_input(file: &str) -> bool {
     file == "-"
 }
 
-/// Does what `request` asks of the guest program in a file, as [`serve`] does, and answers the status.
+/// Does what `request` asks of the guest program in a file, as [`serve`] does: writes what is
+/// printed to `out`, a fault's line to `err`. Answers the status that the program ends with.
 pub fn serve_file<H, W: Write, E: Write>(
     rt: &H,
     file: &str,
@@ -109,12 +112,12 @@ where
     exit_status(served, err)
 }
 
-/// The text of the guest program in a file or on standard input; of a text that is too long, one byte
-/// more than a program may have.
+/// The text of the guest program in a file or on standard input; of a text that is too long, one
+/// byte more than a program may have.
 ///
 /// # Errors
 ///
-/// What the device answers.
+/// The error of the file or of standard input, where it can't be read.
 pub fn read_file<H>(rt: &H, file: &str) -> io::Result<Vec<u8>>
 where
     H: Files + Input + Alloc<A = Global>,
@@ -126,7 +129,7 @@ where
 ///
 /// # Errors
 ///
-/// What the device answers.
+/// The error of the file or of standard input, where it can't be read.
 pub fn read_bytes<H>(rt: &H, file: &str, most: u64) -> io::Result<Vec<u8>>
 where
     H: Files + Input + Alloc<A = Global>,
@@ -140,8 +143,9 @@ where
     Ok(bytes)
 }
 
-/// Writes what a command printed to `out`, or why it printed nothing to `err`. Answers the status.
-pub fn serve_printed<W: Write, E: Write>(
+/// Writes to `out` what a command prints, or, where it prints nothing, to `err` the line that says
+/// why. Answers the status that the program ends with.
+pub fn write_printed<W: Write, E: Write>(
     printed: Result<Printed, CommandFault<'_>>,
     out: &mut W,
     err: &mut E,

@@ -1,15 +1,15 @@
-//! What the table below a board knows: for the proofs alone, no value of it is made.
+//! What proofs say of the table below a board: the accounts of seats, and the board's size.
 
 use std::collections::LinkedList;
 
-// What some seats of a board did together. A seat has an account of its own; where one seat takes
-// in another, the first has both.
+// What some seats of a board did together: for proofs alone, no account is made. A seat has an
+// account of its own; where one seat takes in another, the first one's account is of both.
 pub struct Account {
     // the limit of the board's numbers
     pub limit: u64,
     // how many seats
     pub seats: u64,
-    // how many of them were answered that all numbers are drawn
+    // how many of the seats were answered that all numbers are drawn
     pub marks: u64,
     // the numbers drawn, told, and answered as the least one told
     pub drawn: LinkedList<u64>,
@@ -17,11 +17,11 @@ pub struct Account {
     pub answered: LinkedList<u64>,
 }
 
-// What is settled when a board is made.
+// The size of a board, which is settled when the board is made.
 #[derive(Drop)]
 pub struct Size {
-    // its numbers are those below the limit
+    // the board's numbers are those below this limit
     pub limit: u64,
-    // how many seats it has
+    // how many seats the board has
     pub seats: u64,
 }

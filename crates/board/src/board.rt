@@ -17,18 +17,18 @@ use std::marker::Model;
 /// The answer of [`Board::least`] where no number was told: no told number is above it.
 pub const NONE_TOLD: u64 = u64::MAX;
 
-// How many words a table has. Two are used, and 128 bytes before and behind them are left alone: so
-// nothing else in memory shares a line of a processor's cache with a word that all threads write.
+// How many words a board's table has. Two are used, and 128 bytes before and behind these are left
+// alone: nothing else in memory shares a line of a cache with words that all threads write.
 const WORDS: usize = 34;
 
-// The word of the numbers drawn: how many, and one more for each mark.
+// The place of the table's word of the numbers drawn: how many, and one more for each marked seat.
 const DRAWN: usize = 16;
 
-// The word of the least number told.
+// The place of the table's word of the least number told.
 const LEAST: usize = 17;
 
-/// A board, which threads share by a `&`. A contract sees which board it is, the limit of its
-/// numbers, and how many seats were made with it.
+/// A board of numbers to draw, and of the least number told, which threads share by a `&`. A
+/// contract sees which board it is, the limit of its numbers, and how many seats were made with it.
 #[derive(Drop)]
 pub struct Board {
     table: Table<(), Account, Size, BoardRule, Global>,
@@ -54,11 +54,11 @@ impl Model for Board {
 }
 
 impl Board {
-    /// A board of the numbers below `n`, and its seats.
+    /// A board of the numbers below `n`, and so many `seats` of the board.
     ///
     /// # Errors
     ///
-    /// Memory ran out.
+    /// `AllocError` where memory runs out.
     pub fn new(alloc: Global, n: u32, seats: u32) -> Result<(Board, Vec<Seat>), AllocError>
         requires { 0 < seats }
         ensures limit { IfOk result (λ made. made.0.id.limit ≡ n) }
@@ -91,8 +91,8 @@ impl Board {
         Ok((board, all))
     }
 
-    /// Draws a number: the least one that no seat drew. None where all are drawn; the seat is then
-    /// marked, and answers None from now on without a step.
+    /// Draws a number for a seat: the least one that no seat drew. None where all are drawn: the
+    /// seat is marked then, and from now on None is answered without a step on the table.
     pub fn claim(&self, seat: &mut Seat) -> Option<u64>
         requires { seat.old.board ≡ self.now.id }
         ensures some { IfSome result (λ k. Draws seat.old k seat.new) }
@@ -113,7 +113,7 @@ impl Board {
         }
     }
 
-    /// Tells a number to all seats.
+    /// Tells a seat's number `k` to all seats: [`Board::least`] answers the least number told.
     pub fn tell(&self, seat: &mut Seat, k: u64)
         requires { seat.old.board ≡ self.now.id }
         ensures { seat.new ≡ with_told seat.old k }
@@ -131,7 +131,7 @@ impl Board {
         self.table.shared.load::<Asking>(&mut seat.inner, LEAST)
     }
 
-    /// Ends the board, with all its seats.
+    /// Ends a board, given all its seats: answers what was drawn and told on the board.
     pub fn gather(self, mut seats: Vec<Seat>) -> Claims
         requires board { All (λ s. s.board ≡ self.id) seats.items }
         requires all { vec_len seats ≡ self.seats }

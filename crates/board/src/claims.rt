@@ -20,14 +20,14 @@ impl Model for Claims {
 }
 
 impl Claims {
-    /// How many numbers were drawn. They are those below this count.
+    /// How many numbers were drawn: just those below this count.
     pub fn count(&self) -> u64
         ensures { result ≡ self.now.count }
     {
         self.count
     }
 
-    /// The least number told, or [`NONE_TOLD`](crate::NONE_TOLD).
+    /// The least number that a seat told, or [`NONE_TOLD`](crate::NONE_TOLD).
     pub fn least(&self) -> u64
         ensures { result ≡ self.now.least }
     {

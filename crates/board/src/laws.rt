@@ -6,7 +6,7 @@ ghost use Rattle.board.specs.declared.board.TheConstants.{NONE_TOLD};
 
 use crate::board::NONE_TOLD;
 
-/// No number is above the one that says that none was told.
+/// No number is above `NONE_TOLD`, which says that no number was told.
 pub fn none_told_is_the_greatest()
     ensures { NONE_TOLD ≡ 18446744073709551615 }
 {}

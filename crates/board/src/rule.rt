@@ -7,7 +7,7 @@ ghost use Rattle.board.specs.inner.Rule.{without_one, of_one_seat, both, empty};
 use crate::account::{Account, Size};
 use atomic_table::{Join, Play, Split, TableRule};
 
-// The rule that the words and all accounts keep.
+// The rule that the words of a board's table and the accounts of all seats keep.
 pub struct BoardRule;
 
 impl TableRule<(), Account, Size> for BoardRule {
@@ -16,21 +16,21 @@ impl TableRule<(), Account, Size> for BoardRule {
     ghost first = { λ size. account size.limit size.seats 0 [] [] [] };
 }
 
-// A step that draws a number, or marks the seat.
+// The step of a seat that draws a number, or that marks the seat where all are drawn.
 pub struct Claiming;
 
 impl Play<(), Account> for Claiming {
     ghost then = { λ _ before found after. Claimed before found after };
 }
 
-// A step that tells a number.
+// The step of a seat that tells a number.
 pub struct Telling;
 
 impl Play<(), Account> for Telling {
     ghost then = { λ st before _ after. Told st.first before after };
 }
 
-// A step that asks for the least number told.
+// The step of a seat that asks for the least number told.
 pub struct Asking;
 
 impl Play<(), Account> for Asking {
@@ -51,7 +51,7 @@ impl Play<(), Account> for Closing {
     ghost then = { λ _ before found _. Closed before.0 found };
 }
 
-// How seats are made from an account, and taken in again.
+// How an account is split into those of seats, and how accounts are joined again.
 pub struct Seating;
 
 impl Split<Account> for Seating {

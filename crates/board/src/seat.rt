@@ -3,8 +3,8 @@
 use crate::account::Account;
 use std::marker::Model;
 
-/// A seat of a board: a thread draws and tells by it. A contract sees its board, the numbers that
-/// it drew, told and was answered, and whether it was answered that all are drawn.
+/// A seat of a board, by which a thread draws and tells. A contract sees its board, the numbers
+/// that it drew, told and was answered, and whether it was answered that all are drawn.
 #[derive(Drop)]
 pub struct Seat {
     pub(crate) inner: atomic_table::Seat<(), Account>,

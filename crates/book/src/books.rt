@@ -1,4 +1,4 @@
-//! Books.
+//! The book of a search: what is finished, what is open, and what waits for the next bound.
 
 ghost use Rattle.std.specs.Prelude.{true, false, None, count_by, ◌≡◌, ◌<◌, ◌≤◌, ◌+◌, ◌-◌, ◌↔◌, [], length, drop, is_ok, if◌then◌else◌, IfOk, OnOk, IfErr, OnErr, Ok, IfSome, IfNone, IsTrue, slice_get, Some, All};
 ghost use Rattle.std.specs.Arc.{arc_value};
@@ -48,7 +48,7 @@ pub struct Book {
     pub(crate) lists: bool,
     pub(crate) quick: bool,
     pub(crate) dropped: bool,
-    // Nothing that is open is to be dropped.
+    // Whether no open item is left that is to be dropped.
     pub(crate) swept: bool,
     // Where end views were found in the finished summary, for the next look-up.
     pub(crate) hints: Box<EndHints>,
@@ -70,7 +70,7 @@ impl Model for Book {
 }
 
 impl Book {
-    /// The book of a program of which nothing is known: all of it is open.
+    /// The book of a program at the start of a search: its one open item is the root.
     ///
     /// # Errors
     ///
@@ -81,7 +81,7 @@ impl Book {
         Book::open_as(alloc, Item::root(alloc, program)?, mode, false)
     }
 
-    /// A book of a quick search, which may drop open items. Its one open item is the root.
+    /// The book of a program as a quick search starts, which may drop items: the root is open.
     ///
     /// # Errors
     ///
@@ -92,8 +92,8 @@ impl Book {
         Book::open_as(alloc, Item::root(alloc, program)?, mode, true)
     }
 
-    /// The book of an item of which nothing is known: all that begins with its prefix is open. The
-    /// prefix has no more preemptions than the bound.
+    /// The book of an item at the start of a search of what begins with the item's prefix: the item
+    /// is open. The prefix has no more preemptions than the mode's bound.
     ///
     /// # Errors
     ///
@@ -105,13 +105,13 @@ impl Book {
         Book::open_as(alloc, item, mode, false)
     }
 
-    // The book where all is open.
+    // The book of an item, quick or not, at the start of a search: the item is open.
     fn open_as(alloc: Global, of: Item, mode: Mode, quick: bool) -> Result<Book, AllocError>
         requires { IsWithin mode of }
         ensures { IfOk result (λ b. b ≡ opening_of of mode quick) }
     {
         let hints = Box::new(alloc, EndHints::new())?;
-        let open_items = ItemList::one(alloc, of.try_clone(alloc)?)?;
+        let open_items = ItemList::of_item(alloc, of.try_clone(alloc)?)?;
         let deferred = ItemList::new(alloc);
         Ok(Book {
             of,
@@ -127,21 +127,21 @@ impl Book {
         })
     }
 
-    /// The program.
+    /// The program whose schedules are searched.
     pub fn program(&self) -> &Arc<Program>
         ensures { arc_value result.now ≡ self.now.of.program }
     {
         self.of.shared_program()
     }
 
-    /// Which of its schedules are to be tried.
+    /// Which schedules of the book's item are to be tried: those within a bound, or not pruned.
     pub fn mode(&self) -> Mode
         ensures { result ≡ self.now.mode }
     {
         self.mode
     }
 
-    /// The summary of what is finished.
+    /// The summary of what walks of the book's items have tried.
     pub fn finished(&self) -> &Summary
         ensures finished { result.now ≡ self.now.finished }
         ensures kept { Keeps self.now }
@@ -149,7 +149,7 @@ impl Book {
         &self.finished
     }
 
-    /// How many items are open.
+    /// How many items are open, that is, still to be walked.
     pub fn open_len(&self) -> usize
         ensures length { result ≡ length self.now.open_items }
         ensures kept { Keeps self.now }
@@ -169,8 +169,8 @@ impl Book {
         self.open_items.item(alloc, self.of.shared_program(), place)
     }
 
-    /// Whether what the bound puts off is listed, for a next bound.
-    pub fn lists(&self) -> bool
+    /// Whether the book lists the prefixes that its bound puts off, for the next bound.
+    pub fn lists_deferred(&self) -> bool
         ensures { result ≡ self.now.lists }
     {
         self.lists
@@ -195,21 +195,21 @@ impl Book {
         self.deferred.item(alloc, self.of.shared_program(), place)
     }
 
-    /// Whether the search is a quick one.
+    /// Whether the search is a quick one, which may drop open items.
     pub fn is_quick(&self) -> bool
         ensures { result ≡ self.now.quick }
     {
         self.quick
     }
 
-    /// Whether an open item was dropped.
+    /// Whether the book has dropped an open item.
     pub fn has_dropped(&self) -> bool
         ensures { result ≡ self.now.dropped }
     {
         self.dropped
     }
 
-    /// Copies of the last open items, in their order: at most `ROUND`.
+    /// The book's next round: copies of the last open items, at most `ROUND`, in their order.
     ///
     /// # Errors
     ///
@@ -224,14 +224,14 @@ impl Book {
         Ok(items)
     }
 
-    /// Writes copies of the last open items over these, in their order: at most `ROUND`. The memory
-    /// of these serves the copies of packed ones, and the others are copied anew. Their walks are
-    /// looked for there first; no contract sees that.
+    /// Writes the book's next round over `items`: copies of the last open items, at most `ROUND`,
+    /// in their order. The memory of `items` serves the copies of packed ones, others are copied
+    /// anew. An item that is settled is looked for in this round first; no contract sees that.
     ///
     /// # Errors
     ///
-    /// `AllocError` where memory runs out. The book is as before then, and these are some items of
-    /// the program, not its next round.
+    /// `AllocError` where memory runs out. The book is as before then, and `items` has some items
+    /// of the program, not the round.
     pub fn next_round(&mut self, alloc: Global, items: &mut Vec<Item>) -> Result<(), AllocError>
         requires { AreOf self.old.of.program items.old.items }
         ensures items { OnOk result (items.new.items
@@ -240,14 +240,14 @@ impl Book {
         ensures book { self.new ≡ self.old }
     {
         let first = self.open_items.len().saturating_sub(ROUND);
-        self.open_items.look_from(first);
+        self.open_items.set_hint(first);
         self.open_items
             .copy_last(alloc, self.of.shared_program(), ROUND, items)
     }
 
-    /// The sum of the item's schedules in the book's mode, where nothing is open. None of a quick
-    /// book.
-    pub fn whole(&self) -> Option<&Summary>
+    /// The sum of the schedules of the book's item in the book's mode, if nothing is open. A quick
+    /// book has none.
+    pub fn whole_summary(&self) -> Option<&Summary>
         ensures some { IfSome result (λ s. (s.now ≡ self.now.finished) × (self.now.quick ≡ false) ×
             (self.now.open_items ≡ [])) }
         ensures none { IfNone result (self.now.quick ≡ false → self.now.open_items ≡ [] → ⊥) }
@@ -260,8 +260,8 @@ impl Book {
         }
     }
 
-    /// The summary of the whole program in its mode, where nothing is open, the book is of the root,
-    /// and program and mode are equal to these by value. None of a quick book.
+    /// The summary of the whole program in this mode, if nothing is open, the book is of the root,
+    /// and its program and mode equal those given, by value. A quick book has none.
     pub fn closed(&self, program: &Program, mode: Mode) -> Option<&Summary>
         ensures some { IfSome result (λ s. (s.now ≡ self.now.finished) × (self.now.quick ≡ false) ×
             IsClosed self.now program.now mode) }
@@ -270,15 +270,15 @@ impl Book {
         ensures whole { IfSome result (λ s. s.now ≡ whole program.now mode) }
     {
         if self.is_closed(program, mode) {
-            self.whole()
+            self.whole_summary()
         } else {
             None
         }
     }
 
-    /// The summary of what a quick search tried, where nothing is open and program and mode are
-    /// equal to these by value. It is bounded by the summary of the whole program, and is that one
-    /// where it has no bad schedule.
+    /// The summary of what a quick search of the whole program tried, if nothing is open and the
+    /// book's program and mode equal those given, by value. The answer is bounded by the program's
+    /// summary, and equals that one where no bad schedule was found.
     pub fn closed_quick(&self, program: &Program, mode: Mode) -> Option<&Summary>
         ensures some { IfSome result (λ s. (s.now ≡ self.now.finished) × (self.now.quick ≡ true) ×
             IsClosed self.now program.now mode) }
@@ -303,8 +303,8 @@ impl Book {
         self.open_items.len() == 0 && same_modes(self.mode, mode) && is_root(&self.of, program)
     }
 
-    /// Whether the book drops an item that is open: it is quick, and each schedule of the item
-    /// comes after the first bad one so far.
+    /// Whether the book drops an item where the item is open: the book is quick, and each schedule
+    /// of the item comes after the first bad schedule so far.
     pub fn drops(&self, item: &Item) -> bool
         ensures { result ≡ drops self.now item.now }
     {
@@ -317,8 +317,8 @@ impl Book {
         }
     }
 
-    /// Drops the open items of a quick book whose schedules all come after the first bad one so
-    /// far, and answers how many. It does nothing to any other book. It takes no memory.
+    /// Drops the open items of a quick book whose schedules all come after the first bad schedule
+    /// so far, and answers how many. Any other book drops none. No memory is taken.
     pub fn drop_later(&mut self) -> u64
         ensures book { self.new ≡ thinned self.old }
         ensures number { result ≡ count_by (drops self.old) self.old.open_items }
@@ -338,14 +338,14 @@ impl Book {
         number
     }
 
-    /// Takes a walked item from the open ones, joins its part to what is finished, and puts what it
-    /// left at the end of the open items and what it deferred at the end of those that wait.
+    /// Settles a walk: takes its item from the open ones, joins what was tried to what is finished,
+    /// and puts what the walk left after the open items, what it deferred after the waiting ones.
     ///
     /// # Errors
     ///
-    /// `Stranger` where program or mode are others, else `NotOpen` where the item isn't open,
-    /// `OutOfMemory` where memory runs out. The book is as before then, and an item that is open
-    /// can be walked again.
+    /// `Stranger` where the walk is of another program or mode, else `NotOpen` where its item isn't
+    /// open, `OutOfMemory` where memory runs out. The book is as before then, and an item that is
+    /// open can be walked again.
     pub fn settle(&mut self, alloc: Global, walked: Walked) -> Result<(), SettleError>
         ensures ok { OnOk result (Settles self.old walked self.new) }
         ensures err { IfErr result (λ e. (self.new ≡ self.old) × IsRefused self.old walked e) }
@@ -361,16 +361,16 @@ impl Book {
         Ok(())
     }
 
-    /// Settles at once what walks of items of the book's last round found, in its mode and one
-    /// after another: of those at these places of the round. Answers whether it took them: it
-    /// doesn't only where they aren't open in that order, or what they put off isn't listed and the
-    /// book lists it. No program is compared. What of the round is packed is unpacked for its first
-    /// walks, which no contract sees. The memory of what was found serves later walks.
+    /// Settles at once what walks of `items` of the book's last round found, in the book's mode: of
+    /// those at these `places`, one after another. Answers whether the walks were taken: they
+    /// aren't only where their items aren't open in that order, or where the book lists what is
+    /// put off and `found` doesn't. No program is compared. Packed items of a round are unpacked
+    /// for its first walks, which no contract sees. The memory of `found` serves later walks.
     ///
     /// # Errors
     ///
-    /// `AllocError` where memory runs out. Book and what was found are as before then, as where it
-    /// didn't take the walks.
+    /// `AllocError` where memory runs out. The book and `found` are as before then, and also where
+    /// the walks aren't taken.
     pub fn settle_all(
         &mut self,
         alloc: Global,
@@ -404,8 +404,8 @@ impl Book {
     }
 
     /// Walks the last open items, at most `ROUND`, in their order, each where it stands, and
-    /// settles the walks at once: no item is copied. What the walks found is kept in this memory,
-    /// which serves one round after another.
+    /// settles the walks at once: no item is copied. What the walks find is kept in `found`, whose
+    /// memory serves one round after another.
     ///
     /// # Errors
     ///
@@ -437,10 +437,10 @@ impl Book {
         self.settle_at(alloc, found, first, &places[..end - first])
     }
 
-    // Settles what walks of the open items at these places, each counted without those before it,
-    // found, of which the memory is left; none stands before the first one. First there is memory
-    // for what is left open, and what is put off is listed; then the sum is joined, which is the
-    // last that can be refused; then items come and go.
+    // Settles what walks of the open items at `places` found: each place is counted without the
+    // items at those before it, and none is below `first`. First there is memory for what is left
+    // open, and what is put off is listed; then the sum is joined, which is the last that can be
+    // refused; then items come and go. The memory of `found` is left for later walks.
     fn settle_at(
         &mut self,
         alloc: Global,
@@ -457,7 +457,7 @@ impl Book {
         ensures found { OnErr result (found.new ≡ found.old) }
     {
         let program = self.of.shared_program();
-        let packs = is_packed(self.quick, &self.finished, &found.part);
+        let packs = may_pack(self.quick, &self.finished, &found.part);
         self.open_items
             .unpack_from(alloc, program, first_unpacked(packs, first))?;
         let deferred_len = self.deferred.len();
@@ -469,7 +469,7 @@ impl Book {
         let listed = listed_of(self.lists, &found.deferred, &none);
         self.deferred
             .append_prefixes(alloc, program, listed, packs)?;
-        if let Err(error) = self.finished.join_in_by(&mut self.hints, &mut found.part) {
+        if let Err(error) = self.finished.join_in(&mut self.hints, &mut found.part) {
             self.deferred.truncate(deferred_len);
             return Err(error);
         }
@@ -479,8 +479,8 @@ impl Book {
         Ok(())
     }
 
-    /// Makes the bound the last one: what it put off is forgotten, and what it puts off isn't
-    /// listed any more. It takes no memory.
+    /// Makes the book's bound the last one: what was put off is forgotten, and what is put off from
+    /// now on isn't listed. No memory is taken.
     pub fn make_last(&mut self)
         ensures { self.new ≡ made_last self.old }
     {
@@ -488,8 +488,8 @@ impl Book {
         self.lists = false;
     }
 
-    /// Goes from a bound to the next: what is finished stays, `beyond` aside, and the items that
-    /// waited are open. It takes no memory.
+    /// Goes on from the book's bound to the next one: what is finished stays, `beyond` aside, and
+    /// the items that waited for the next bound are open. No memory is taken.
     ///
     /// # Errors
     ///
@@ -520,7 +520,7 @@ impl Book {
     }
 }
 
-// The prefixes, where they are listed, or none.
+// The prefixes that walks put off, where `lists` says that such are listed, else the list `none`.
 pub(crate) fn listed_of<'a>(lists: bool, prefixes: &'a Prefixes, none: &'a Prefixes) -> &'a Prefixes
     requires { none.now ≡ [] }
     ensures { result.now ≡ listed_if lists prefixes.now }
@@ -528,7 +528,7 @@ pub(crate) fn listed_of<'a>(lists: bool, prefixes: &'a Prefixes, none: &'a Prefi
     if lists { prefixes } else { none }
 }
 
-// Whether the item is that of all schedules of this program.
+// Whether an item is the root of this program: the item of all its schedules.
 fn is_root(item: &Item, program: &Program) -> bool
     ensures { IsTrue result ↔ (item.now ≡ root_of program.now) }
 {
@@ -537,14 +537,14 @@ fn is_root(item: &Item, program: &Program) -> bool
         && item.program().is_same(program)
 }
 
-// Whether the modes are equal.
+// Whether two modes are equal.
 fn same_modes(first: Mode, second: Mode) -> bool
     ensures { IsTrue result ↔ (first ≡ second) }
 {
     first == second
 }
 
-// The mode at the next bound.
+// The mode at the bound after that of a mode, if there is one.
 fn next_mode(mode: Mode) -> Option<Mode>
     ensures some { IfSome result (λ m.
         (bound_of mode < BOUND) × (m ≡ Bounded (bound_of mode + 1))) }
@@ -562,16 +562,16 @@ fn next_mode(mode: Mode) -> Option<Mode>
     }
 }
 
-// Whether a book packs prefixes after a walk: not where a quick one has found a bad schedule, since
-// it drops items in place.
-pub(crate) fn is_packed(quick: bool, finished: &Summary, part: &Summary) -> bool
+// Whether a book may pack prefixes once a walk that found this `part` is settled: not where a quick
+// book has a bad schedule, since items are dropped in place from then on.
+pub(crate) fn may_pack(quick: bool, finished: &Summary, part: &Summary) -> bool
     ensures { IsTrue result → quick ≡ true →
         (finished.now.first_bad ≡ None) × (part.now.first_bad ≡ None) }
 {
     !quick || (finished.first_bad().is_none() && part.first_bad().is_none())
 }
 
-// The place from which on items are not packed: this one, where any are packed at all.
+// The place from which on items are to stand unpacked: the one given, or 0 where none is packed.
 pub(crate) fn first_unpacked(packs: bool, place: usize) -> usize
     ensures place { result ≤ place }
     ensures none { packs ≡ false → result ≡ 0 }
@@ -579,7 +579,7 @@ pub(crate) fn first_unpacked(packs: bool, place: usize) -> usize
     if packs { place } else { 0 }
 }
 
-// Whether walks found no bad schedule and left nothing.
+// Whether walks found no bad schedule and left no item open.
 fn is_quiet(found: &Found) -> bool
     ensures { IsTrue result → (found.now.rest.items ≡ []) × (found.now.part.first_bad ≡ None) }
 {

@@ -1,4 +1,4 @@
-//! Why a book refuses.
+//! Why a book refuses a walk, or to go on to the next bound.
 
 ghost use Rattle.std.specs.Prelude.{◌≡◌};
 
@@ -6,12 +6,12 @@ use std::alloc::AllocError;
 use std::fmt;
 use thiserror::Error;
 
-/// Why a walk was refused. The book is as before.
+/// Why a book refused a walk. The book is as before.
 #[derive(Debug, Drop, Error)]
 pub enum SettleError {
-    /// Its item isn't open.
+    /// The walk's item isn't open.
     NotOpen,
-    /// It is of another program or mode.
+    /// The walk is of another program or mode.
     Stranger,
     /// Memory ran out.
     OutOfMemory,
@@ -43,14 +43,14 @@ impl From<AllocError> for SettleError {
     }
 }
 
-/// Why a book wasn't raised. It is as before.
+/// Why a book didn't go on to the next bound. The book is as before.
 #[derive(Debug, Drop, Error)]
 pub enum RaiseError {
-    /// An item is open.
+    /// An item is still open.
     StillOpen,
     /// The bound is the last one, or the mode has none.
     LastBound,
-    /// An item was dropped.
+    /// An open item was dropped.
     Dropped,
 }
 

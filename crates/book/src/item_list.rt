@@ -13,7 +13,7 @@ ghost use Rattle.book.specs.Books.{remove_each, AreWithin, AreOpenAt, StandInOrd
 use crate::limits::ROUND;
 use guest_code::program::Program;
 use items::item::{Item, same_masks};
-use packed_items::{last_item, last_items};
+use packed_items::{last_item, write_last_items};
 use prefix_list::Prefixes;
 use semantics::mask::Mask;
 use std::alloc::{AllocError, Global};
@@ -22,9 +22,9 @@ use std::marker::Model;
 use std::mem;
 use std::sync::Arc;
 
-/// A list of items of one program, which its holder knows: prefixes after which no thread sleeps
-/// are packed, a few bytes each, and items that came later or were asked for stand after them as
-/// they are, in a queue: those of a round leave it at its front.
+/// A list of items of one program, which the list's holder knows. First come packed items, prefixes
+/// after which no thread sleeps, a few bytes each; then, in a queue, items that came later or were
+/// asked for, as they are. The items of a round leave the queue at its front.
 #[derive(Drop)]
 pub(crate) struct ItemList {
     packed: Prefixes,
@@ -43,7 +43,7 @@ impl Model for ItemList {
 
 impl ItemList {
     // A list of one item.
-    pub(crate) fn one(alloc: Global, item: Item) -> Result<ItemList, AllocError>
+    pub(crate) fn of_item(alloc: Global, item: Item) -> Result<ItemList, AllocError>
         ensures packed { IfOk result (λ l. l.packed ≡ []) }
         ensures unpacked { IfOk result (λ l. l.unpacked ≡ item ∷ []) }
     {
@@ -52,7 +52,7 @@ impl ItemList {
         Ok(list)
     }
 
-    // A list of none.
+    // An empty list.
     pub(crate) fn new(alloc: Global) -> ItemList
         ensures packed { result.packed ≡ [] }
         ensures unpacked { result.unpacked ≡ [] }
@@ -64,14 +64,14 @@ impl ItemList {
         }
     }
 
-    // How many items there are.
+    // How many items the list has.
     pub(crate) fn len(&self) -> usize
         ensures { (p : Program) → result ≡ length (all_of p self.now) }
     {
         self.packed.len() + self.unpacked.len()
     }
 
-    // A copy of the item at a place.
+    // A copy of the item at a place of the list, counted from 0.
     pub(crate) fn item(
         &self,
         alloc: Global,
@@ -92,7 +92,7 @@ impl ItemList {
         last_item(alloc, program, &prefixes)
     }
 
-    // Writes copies of the last items, at most `most` of them, over others of their program.
+    // Writes copies of the list's last items, at most `most`, over `items`, others of the program.
     pub(crate) fn copy_last(
         &self,
         alloc: Global,
@@ -110,11 +110,11 @@ impl ItemList {
     {
         let unpacked = self.unpacked.len();
         let count = most.saturating_sub(unpacked).min(self.packed.len());
-        last_items(alloc, program, &self.packed, count, items)?;
+        write_last_items(alloc, program, &self.packed, count, items)?;
         push_copies(alloc, items, &self.unpacked, unpacked.saturating_sub(most))
     }
 
-    // An item that isn't packed, by its place among all.
+    // An item that isn't packed, by its place in the whole list.
     pub(crate) fn unpacked_item(&self, place: usize) -> &Item
         requires unpacked { length self.now.packed ≤ place }
         requires place { place < length self.now.packed + length self.now.unpacked }
@@ -123,7 +123,7 @@ impl ItemList {
         &self.unpacked[place - self.packed.len()]
     }
 
-    // The place of an item of the list's program.
+    // The place of an item of the list's program, if the list has the item.
     pub(crate) fn position(&self, item: &Item) -> Option<usize>
         requires { AreOf item.now.program self.now.unpacked }
         ensures some { IfSome result (λ k.
@@ -138,7 +138,7 @@ impl ItemList {
         }
     }
 
-    // The place of an item of the list's program among the packed ones.
+    // The place of an item of the list's program among the packed items, if it is one of these.
     fn packed_position(&self, item: &Item) -> Option<usize>
         ensures some { IfSome result (λ k. (k < length self.now.packed) ×
             (slice_get (items_at item.now.program self.now.packed) k ≡ Some item.now)) }
@@ -151,7 +151,7 @@ impl ItemList {
         self.packed.position(item.prefix())
     }
 
-    // Takes the items from a place on out of the packed ones, and looks there first from now on.
+    // Unpacks the packed items from a place on. If there are any, items are looked for there first.
     pub(crate) fn unpack_from(
         &mut self,
         alloc: Global,
@@ -171,7 +171,7 @@ impl ItemList {
         Ok(())
     }
 
-    // Takes the last of the packed items out.
+    // Unpacks the last packed item, and lets items be looked for there first.
     //
     // # Errors
     //
@@ -198,16 +198,16 @@ impl ItemList {
         self.packed.len()
     }
 
-    // Looks for items from this place on.
-    pub(crate) fn look_from(&mut self, place: usize)
+    // Sets the place in the list from which on items are looked for first.
+    pub(crate) fn set_hint(&mut self, place: usize)
         ensures { self.new ≡ self.old }
     {
         self.hint = place.saturating_sub(self.packed.len());
     }
 
-    // Where the items at some places of the last round stand, if they stand in their order: each is
-    // counted without those before it. What of the round is packed is unpacked for this, so a round
-    // is unpacked where its first walks are settled; all is, where they aren't found in it.
+    // Where the items at some `places` of the last round stand in the list, if they stand in their
+    // order: each place is counted without the items found before. Packed items of the round are
+    // unpacked for this when its first walks are settled; all are, where the items aren't found so.
     pub(crate) fn places_of(
         &mut self,
         alloc: Global,
@@ -241,8 +241,8 @@ impl ItemList {
         self.places_from(alloc, 0, items, places)
     }
 
-    // Where the items at some places of a round stand, if they stand in their order among those
-    // that aren't packed, from a place of these on: each is counted without those before it.
+    // Where the items at some `places` of a round stand in the list, if they stand in their order
+    // among the unpacked ones from `first` on: each is counted without the items found before.
     fn places_from(
         &self,
         alloc: Global,
@@ -272,7 +272,7 @@ impl ItemList {
         Ok(Some(found))
     }
 
-    // Takes out the items from one place to another, which aren't packed.
+    // Takes out the items from place `first` up to place `end`, none of which is packed.
     fn remove(&mut self, first: usize, end: usize)
         requires unpacked { length self.old.packed ≤ first }
         requires range { first ≤ end }
@@ -285,8 +285,8 @@ impl ItemList {
         self.unpacked.drain(first - packed..end - packed);
     }
 
-    // Takes out the items at these places, which aren't packed: each is counted without those
-    // before it. So the items of a range are all at one place, and are taken out at once.
+    // Takes out the items at some places, none of them packed: each place is counted without the
+    // items at those before it. So items in a row have all one place, and are taken out at once.
     pub(crate) fn remove_each(&mut self, places: &[usize])
         requires unpacked { All (λ k. length self.old.packed ≤ k) places.now }
         requires within { (p : Program) × AreWithin (all_of p self.old) places.now }
@@ -304,7 +304,7 @@ impl ItemList {
         }
     }
 
-    // Gets memory for so many more items that aren't packed.
+    // Gets memory for `more` further items that aren't packed.
     //
     // # Errors
     //
@@ -317,7 +317,7 @@ impl ItemList {
         self.unpacked.reserve(more)
     }
 
-    // Puts items after the others, where there is memory for them. Mostly there is none to put.
+    // Puts items at the list's end, where memory was reserved. Mostly `items` has none.
     pub(crate) fn append(&mut self, alloc: Global, items: &mut Vec<Item>)
         requires { length self.old.unpacked + length items.old.items ≤ self.old.room }
         ensures packed { self.new.packed ≡ self.old.packed }
@@ -330,7 +330,7 @@ impl ItemList {
         let _ = self.unpacked.append(&mut VecDeque::from_vec(taken));
     }
 
-    // Puts the items of prefixes after the others, packed or as they are.
+    // Puts the items of prefixes at the list's end: packed if `packs` and the whole list is packed.
     //
     // # Errors
     //
@@ -353,13 +353,13 @@ impl ItemList {
             return self.packed.append(alloc, prefixes);
         }
         let mut items = Vec::new(alloc);
-        last_items(alloc, program, prefixes, prefixes.len(), &mut items)?;
+        write_last_items(alloc, program, prefixes, prefixes.len(), &mut items)?;
         self.reserve(items.len())?;
         self.append(alloc, &mut items);
         Ok(())
     }
 
-    // Puts the items of another list after the others, none of them packed.
+    // Moves the items of another list, unpacked, to the end of this one.
     //
     // # Errors
     //
@@ -381,8 +381,8 @@ impl ItemList {
         Ok(())
     }
 
-    // Moves the last items, at most `most` of them, into another list, in place of what that one
-    // has.
+    // Moves this list's last items, at most `most`, into another list, in place of the items that
+    // the other has.
     //
     // # Errors
     //
@@ -406,11 +406,11 @@ impl ItemList {
         Ok(())
     }
 
-    // Becomes an equal list, in the memory that it has.
+    // Makes this list equal to another one, in the memory that this one has.
     //
     // # Errors
     //
-    // `AllocError` where memory runs out; it has some items of the other list then.
+    // `AllocError` where memory runs out; this list has some items of the other then.
     pub(crate) fn copy_from(&mut self, alloc: Global, other: &ItemList) -> Result<(), AllocError>
         ensures packed { OnOk result (self.new.packed ≡ other.now.packed) }
         ensures unpacked { OnOk result (self.new.unpacked ≡ other.now.unpacked) }
@@ -424,7 +424,7 @@ impl ItemList {
         Ok(())
     }
 
-    // Whether another list has the same items, of this program. Mostly the bytes tell.
+    // Whether another list of this program has the same items. Mostly comparing bytes is enough.
     //
     // # Errors
     //
@@ -454,7 +454,7 @@ impl ItemList {
         Ok(same_items(&VecDeque::from_vec(items), &VecDeque::from_vec(others)))
     }
 
-    // Takes all items out.
+    // Takes all items out of the list.
     pub(crate) fn clear(&mut self)
         ensures packed { self.new.packed ≡ [] }
         ensures unpacked { self.new.unpacked ≡ [] }
@@ -464,7 +464,7 @@ impl ItemList {
         self.hint = 0;
     }
 
-    // Keeps the first items, at most `length` of them.
+    // Keeps the list's first items, at most `length`, and gives the others up.
     pub(crate) fn truncate(&mut self, length: usize)
         ensures items { (p : Program) → all_of p self.new ≡ take length (all_of p self.old) }
         ensures none { self.old.packed ≡ [] → self.new.packed ≡ [] }
@@ -474,7 +474,7 @@ impl ItemList {
         self.unpacked.truncate(length.saturating_sub(packed));
     }
 
-    // Drops the items whose schedules all come after this one, and answers how many.
+    // Drops the items whose schedules all come after this schedule, and answers how many.
     pub(crate) fn drop_later(&mut self, schedule: &[u8]) -> u64
         requires { self.old.packed ≡ [] }
         ensures packed { self.new.packed ≡ [] }
@@ -489,7 +489,7 @@ impl ItemList {
     }
 }
 
-// The place that all of these are, if there is one.
+// The one place that all of these places are, if there is such a one.
 fn only_place(places: &[usize]) -> Option<usize>
     ensures { IfSome result (λ q. (0 < length places.now) × All (λ k. k ≡ q) places.now) }
 {
@@ -501,7 +501,7 @@ fn only_place(places: &[usize]) -> Option<usize>
     }
 }
 
-// Puts copies of the items from a place on after others.
+// Puts copies of the items of `more`, from place `first` on, at the end of `items`.
 fn push_copies(
     alloc: Global,
     items: &mut Vec<Item>,
@@ -520,7 +520,7 @@ fn push_copies(
     Ok(())
 }
 
-// The first place from a place on where an item stands among others of its program.
+// The first place, from `start` on, at which an item stands in a queue of items of its program.
 fn position_from(items: &VecDeque<Item>, start: usize, item: &Item) -> Option<usize>
     requires { AreOf item.now.program items.now.items }
     ensures some { IfSome result (λ k. (start ≤ k) ×
@@ -538,7 +538,7 @@ fn position_from(items: &VecDeque<Item>, start: usize, item: &Item) -> Option<us
     None
 }
 
-// Whether an item stands at a place among others of its program. Their programs aren't compared.
+// Whether an item stands at a place in a queue of items of its program. No program is compared.
 fn is_at(items: &VecDeque<Item>, place: usize, item: &Item) -> bool
     requires program { AreOf item.now.program items.now.items }
     requires place { place < length items.now.items }
@@ -548,7 +548,7 @@ fn is_at(items: &VecDeque<Item>, place: usize, item: &Item) -> bool
     same_steps(other.prefix(), item.prefix()) && same_masks(other.mask(), item.mask())
 }
 
-// Whether two lists of items of one program are the same. Their programs aren't compared.
+// Whether two queues of items of one program have the same items. No program is compared.
 fn same_items(first: &VecDeque<Item>, second: &VecDeque<Item>) -> bool
     requires { (p : Program) × AreOf p first.now.items × AreOf p second.now.items }
     ensures { IsTrue result ↔ (first.now.items ≡ second.now.items) }
@@ -564,14 +564,14 @@ fn same_items(first: &VecDeque<Item>, second: &VecDeque<Item>) -> bool
     true
 }
 
-// Whether the steps are the same.
+// Whether two prefixes have the same steps.
 fn same_steps(first: &[u8], second: &[u8]) -> bool
     ensures { IsTrue result ↔ (first.now ≡ second.now) }
 {
     first == second
 }
 
-/// Whether a prefix differs from a schedule, and is greater at the first such place.
+/// Whether a prefix differs from a schedule, and has the greater step where they differ first.
 pub(crate) fn is_later(schedule: &[u8], prefix: &[u8]) -> bool
     ensures { result ≡ is_later schedule.now prefix.now }
 {
@@ -583,7 +583,7 @@ pub(crate) fn is_later(schedule: &[u8], prefix: &[u8]) -> bool
     false
 }
 
-// Drops the items whose schedules all come after this one, and answers how many.
+// Drops the items whose schedules all come after this schedule, and answers how many.
 fn drop_later(items: &mut VecDeque<Item>, schedule: &[u8]) -> u64
     ensures items { items.new.items ≡
         filter (λ i. not (is_later schedule.now i.prefix)) items.old.items }

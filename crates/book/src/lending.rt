@@ -7,7 +7,7 @@ ghost use Rattle.book.specs.Books.{Keeps, HaveFound, HaveSettled, places_from};
 ghost use Rattle.book.specs.Lending.{as_book, lending, Reorders, IsLoanOf, Has, Lends, IsNotSettled};
 ghost use Rattle.book.specs.Progress.{IsProgressOf};
 
-use crate::books::{Book, first_unpacked, is_packed, listed_of};
+use crate::books::{Book, first_unpacked, listed_of, may_pack};
 use crate::item_list::ItemList;
 use crate::loan::Loan;
 use crate::progress::{Progress, mode_bound};
@@ -19,10 +19,10 @@ use std::marker::Model;
 use summary::{EndHints, Summary};
 use walk::found::Found;
 
-/// A book of whose open items each worker may have some, in rounds of its own. Nothing was dropped
-/// from it. What a worker has is still open, and is listed before what nobody has.
+/// A book that lends open items to workers, which walk them in rounds of their own. No item was
+/// dropped from the book. A lent item is still open, and stands before those that nobody has.
 ///
-/// The type keeps what that of a [`Book`] keeps.
+/// The type keeps of such a book what the type [`Book`] keeps.
 #[derive(Drop)]
 pub struct LendingBook {
     of: Item,
@@ -53,7 +53,7 @@ impl Model for LendingBook {
 }
 
 impl LendingBook {
-    /// The book, for so many workers, of which none has an item yet.
+    /// A book that lends its items to so many `workers`, of which none has an item yet.
     ///
     /// # Errors
     ///
@@ -91,7 +91,7 @@ impl LendingBook {
         })
     }
 
-    /// The book again: what workers have is open.
+    /// The book that lends no more: the items that workers have are open, too.
     ///
     /// # Errors
     ///
@@ -114,7 +114,7 @@ impl LendingBook {
         while let Some(mut list) = lent.pop() {
             free.append_list(alloc, program, &mut list)?;
         }
-        let packs = is_packed(quick, &finished, &finished);
+        let packs = may_pack(quick, &finished, &finished);
         let first = first_unpacked(packs, free.len());
         free.unpack_from(alloc, program, first)?;
         let first = first_unpacked(packs, deferred.len());
@@ -133,7 +133,7 @@ impl LendingBook {
         })
     }
 
-    /// The summary of what is finished.
+    /// The summary of what walks of the book's items have tried.
     pub fn finished(&self) -> &Summary
         ensures finished { result.now ≡ self.now.finished }
         ensures kept { Keeps (as_book self.now) }
@@ -141,14 +141,14 @@ impl LendingBook {
         &self.finished
     }
 
-    /// How many open items nobody has.
+    /// How many open items are lent to no worker.
     pub fn free_len(&self) -> usize
         ensures { result ≡ length self.now.free }
     {
         self.free.len()
     }
 
-    /// How far the search is. Its open items are counted up to 2^64 - 1.
+    /// How far the search is. Open items, lent ones among them, are counted up to 2^64 - 1.
     pub fn progress(&self) -> Progress
         ensures progress { let b = as_book self.now in
             IsProgressOf b (record result { open_items = length b.open_items }) }
@@ -168,9 +168,9 @@ impl LendingBook {
         }
     }
 
-    /// Lends the last of the free items, at most so many, to a worker that has none, and copies them
-    /// into a loan. Answers whether it did: it doesn't only where there is no such worker, or it has
-    /// items.
+    /// Lends the last of the free items, at most `most`, to a worker that has none, and copies
+    /// these items into a loan. Answers whether they were lent: they aren't only where there is no
+    /// such worker, or where the worker has items.
     ///
     /// # Errors
     ///
@@ -200,15 +200,15 @@ impl LendingBook {
         Ok(true)
     }
 
-    /// Settles at once what walks of all items of a worker's loan found, in their order: what they
-    /// left is free. Answers whether it took them: it doesn't only where the worker hasn't these
-    /// items, or what the walks put off isn't listed and the book lists it. The memory of what was
-    /// found serves later walks.
+    /// Settles at once what walks of all items of a worker's loan found, in the loan's order: what
+    /// the walks left is free. Answers whether they were taken: they aren't only where the worker
+    /// hasn't these items, or where the book lists what is put off and `found` doesn't. The memory
+    /// of `found` serves later walks.
     ///
     /// # Errors
     ///
-    /// `AllocError` where memory runs out. Book and what was found are as before then, as where it
-    /// didn't take the walks.
+    /// `AllocError` where memory runs out. The book and `found` are as before then, and also where
+    /// the walks aren't taken.
     pub fn settle(
         &mut self,
         alloc: Global,
@@ -245,7 +245,7 @@ impl LendingBook {
         let none = Prefixes::new(alloc);
         let listed = listed_of(self.lists, &found.deferred, &none);
         self.deferred.append_prefixes(alloc, program, listed, true)?;
-        if let Err(error) = self.finished.join_in_by(&mut self.hints, &mut found.part) {
+        if let Err(error) = self.finished.join_in(&mut self.hints, &mut found.part) {
             self.deferred.truncate(deferred_len);
             return Err(error);
         }

@@ -1,4 +1,4 @@
-//! Loans.
+//! What a book lends to a worker.
 
 ghost use Rattle.std.specs.Prelude.{◌≡◌, [], length, OnOk};
 ghost use Rattle.std.specs.Arc.{arc_value};
@@ -28,7 +28,7 @@ impl Model for Loan {
 }
 
 impl Loan {
-    /// A loan of none.
+    /// A loan of no item.
     pub fn new(alloc: Global) -> Loan
         ensures packed { result.packed ≡ [] }
         ensures unpacked { result.unpacked ≡ [] }
@@ -38,7 +38,7 @@ impl Loan {
         }
     }
 
-    /// Writes the items over others of their program, in their order.
+    /// Writes copies of the loan's items, in the loan's order, over `items`, others of the program.
     ///
     /// # Errors
     ///

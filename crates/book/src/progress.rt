@@ -9,17 +9,17 @@ use items::mode::Mode;
 /// How far a search is after a round.
 #[derive(Clone, Copy, Debug)]
 pub struct Progress {
-    /// The bound that it is at, or `None` where it has no bound.
+    /// The bound that the search is at, or `None` where it has no bound.
     pub bound: Option<u32>,
     /// How many schedules were tried, at most 2^64 - 1.
     pub tried: u64,
-    /// How many of them failed or got stuck.
+    /// How many of the tried schedules failed or got stuck.
     pub bad: u64,
     /// How many items are open: prefixes whose schedules are still to be tried at this bound.
     pub open_items: usize,
     /// How many prefixes wait for the next bound.
     pub deferred: usize,
-    /// Whether there is a next bound, for which they are listed.
+    /// Whether there is a next bound, for which prefixes are listed.
     pub lists: bool,
 }
 
@@ -45,7 +45,7 @@ impl Progress {
             bad: finished.failed().saturating_add(finished.stuck()),
             open_items: book.open_len(),
             deferred: book.deferred_len(),
-            lists: book.lists(),
+            lists: book.lists_deferred(),
         }
     }
 }

@@ -16,18 +16,15 @@ ghost use Rattle.book.specs.Books.{BookView, Keeps, KeepsWhere, IsBook, IsThinne
 
 use book::limits::ROUND;
 
-// All books.
-
-/// A book that lists what its bound puts off has all of it among the deferred items: without a drop
-/// it is a book as the next laws want it, else a thinned one.
+/// A book that lists what its bound puts off has all of that among its deferred items: it is one as
+/// `IsBook` says where no item was dropped, else one as `IsThinned` says.
 pub fn what_is_listed_is_all()
     ensures { (b : BookView) → Keeps b → b.lists ≡ true → KeepsWhere b.dropped b }
 {}
 
-/// Also where the bound was made the last one, and so nothing is listed of what it puts off: the
-/// sum of the book's item is what is finished joined with the sums of the open items, where no item
-/// was dropped. Where one was, the join is bounded by the item's sum. The sum of a program's root is
-/// the program's summary.
+/// Of any book, whether or not it lists what its bound puts off: the sum of the book's item is what
+/// is finished joined with the sums of the open items, where no item was dropped. Where one was,
+/// the join is bounded by the item's sum. The sum of a program's root is the program's summary.
 pub fn every_book_joins()
     ensures whole { (b : BookView) → Keeps b → b.dropped ≡ false →
         item_sum b.mode b.of ≡ join b.finished (item_sums b.mode b.open_items) }
@@ -35,8 +32,8 @@ pub fn every_book_joins()
         IsBoundedBy (join b.finished (item_sums b.mode b.open_items)) (item_sum b.mode b.of) }
 {}
 
-/// Where the bound was made the last one, too, no schedule begins with the prefixes of two of the
-/// open and the deferred items, at different places.
+/// Of any book, whether or not it lists what its bound puts off: no schedule begins with the
+/// prefixes of two of the open and the deferred items, at different places.
 pub fn no_book_has_a_schedule_twice()
     ensures { (b : BookView) (v : List ℕ) (i j : ℕ) (d : ItemView) → Keeps b →
         i < j → j < length (items_left b) →
@@ -44,9 +41,10 @@ pub fn no_book_has_a_schedule_twice()
         begins_with (slice_index_or (items_left b) j d).prefix v ≡ false }
 {}
 
-/// Where the bound was made the last one, too, each open item lies under the book's, and has those
-/// of the book's schedules that begin with its prefix; and where no item was dropped, what is
-/// finished, `beyond` aside, is the sum of the book's schedules that lie under no open item.
+/// Of any book, whether or not it lists what its bound puts off: each open item lies under the
+/// book's item, and has those of the book's schedules that begin with the open item's prefix. Where
+/// no item was dropped, what is finished, `beyond` aside, is the sum of the book's schedules that
+/// lie under no open item.
 pub fn every_book_splits()
     ensures below { (b : BookView) → Keeps b → All (IsBelow b.of) b.open_items }
     ensures schedules { (b : BookView) → Keeps b → All (HasItsSchedules b) b.open_items }
@@ -54,30 +52,29 @@ pub fn every_book_splits()
         (sum_of b.of.program (clear_of b.open_items (book_schedules b))) b.finished.beyond }
 {}
 
-// Books from which nothing was dropped.
-
-/// The sum of the book's item is what is finished joined with the sums of the open items.
+/// Of a book from which nothing was dropped: the sum of the book's item is what is finished joined
+/// with the sums of the open items.
 pub fn finished_and_open_join()
     ensures { (b : BookView) → IsBook b →
         item_sum b.mode b.of ≡ join b.finished (item_sums b.mode b.open_items) }
 {}
 
-/// What is finished, `beyond` aside, is the sum of the book's schedules that lie under no open
-/// item.
+/// Of a book from which nothing was dropped: what is finished, `beyond` aside, is the sum of the
+/// book's schedules that lie under no open item.
 pub fn finished_is_under_none()
     ensures { (b : BookView) → IsBook b → b.finished ≡ with_beyond
         (sum_of b.of.program (clear_of b.open_items (book_schedules b))) b.finished.beyond }
 {}
 
-/// Each open item lies under the book's, and has those of the book's schedules that begin with its
-/// prefix.
+/// Of a book from which nothing was dropped: each open item lies under the book's item, and has
+/// those of the book's schedules that begin with the open item's prefix.
 pub fn open_have_their_schedules()
     ensures below { (b : BookView) → IsBook b → All (IsBelow b.of) b.open_items }
     ensures schedules { (b : BookView) → IsBook b → All (HasItsSchedules b) b.open_items }
 {}
 
-/// No schedule begins with the prefixes of two of the open and the deferred items, at different
-/// places.
+/// Of a book from which nothing was dropped: no schedule begins with the prefixes of two of the
+/// open and the deferred items, at different places.
 pub fn none_is_under_two()
     ensures { (b : BookView) (v : List ℕ) (i j : ℕ) (d : ItemView) → IsBook b →
         i < j → j < length (items_left b) →
@@ -85,18 +82,20 @@ pub fn none_is_under_two()
         begins_with (slice_index_or (items_left b) j d).prefix v ≡ false }
 {}
 
-/// At a bound all complete schedules that begin with the prefix of the book's item, whatever their
-/// preemptions, are what is finished, `beyond` aside, and those of the open and the deferred items.
-/// So of the parts that were settled no two are of one schedule, at whatever bounds they were walked.
+/// Of a book at a bound from which nothing was dropped: all complete schedules that begin with the
+/// prefix of the book's item, whatever their preemptions, are what is finished, `beyond` aside, and
+/// those of the open and the deferred items. So of the parts that were settled no two are of one
+/// schedule, at whatever bounds they were walked.
 pub fn nothing_is_walked_twice()
     ensures { (b : BookView) (bound : ℕ) → b.mode ≡ Bounded bound → IsBook b →
         full_sum b.of ≡
         join (with_beyond b.finished false) (full_sums (items_left b)) }
 {}
 
-/// Each complete schedule past the bound that begins with the prefix of the book's item lies under
-/// an open or a deferred item. The open items are within the bound, and the deferred ones lie under
-/// the book's and are past the bound by their last step alone.
+/// Of a book at a bound from which nothing was dropped: each complete schedule past the bound that
+/// begins with the prefix of the book's item lies under an open or a deferred item. The open items
+/// are within the bound. The deferred ones lie under the book's item, and are past the bound by
+/// their last step alone.
 pub fn what_is_past_is_kept()
     ensures all { (b : BookView) (bound : ℕ) (v : List ℕ) → b.mode ≡ Bounded bound → IsBook b →
         Contains (complete_schedules b.of.program (start b.of.program)) v →
@@ -109,28 +108,27 @@ pub fn what_is_past_is_kept()
         All (IsDeferred bound) b.deferred }
 {}
 
-/// Where schedules are pruned nothing is deferred.
+/// Nothing is deferred in a book from which nothing was dropped and whose mode prunes schedules.
 pub fn pruned_books_defer_nothing()
     ensures { (b : BookView) → b.mode ≡ Reduced → IsBook b → b.deferred ≡ [] }
 {}
 
-// Quick books from which an item was dropped.
-
-/// What is finished joined with the sums of the open items is bounded by the sum of the book's
-/// item.
+/// Of a quick book from which an item was dropped: what is finished joined with the sums of the
+/// open items is bounded by the sum of the book's item.
 pub fn dropping_is_bounded()
     ensures { (b : BookView) → IsThinned b →
         IsBoundedBy (join b.finished (item_sums b.mode b.open_items)) (item_sum b.mode b.of) }
 {}
 
-/// What is finished has a first bad schedule, a bad one of the book's schedules.
+/// Of a quick book from which an item was dropped: what is finished has a first bad schedule, which
+/// is a bad one of the book's schedules.
 pub fn dropping_needs_a_bad_one()
     ensures { (b : BookView) → IsThinned b → (w : List ℕ) × (b.finished.first_bad ≡ Some w) ×
         Contains (book_schedules b) w × (is_bad (end_kind b.of.program w) ≡ true) }
 {}
 
-/// The open items keep what they keep without a drop, and no schedule begins with the prefixes of
-/// two of the open and the deferred ones.
+/// Of a quick book from which an item was dropped: each open item lies under the book's item and
+/// has its schedules; no schedule begins with the prefixes of two of the open and deferred items.
 pub fn dropping_keeps_the_open()
     ensures below { (b : BookView) → IsThinned b →
         All (IsBelow b.of) b.open_items }
@@ -141,9 +139,7 @@ pub fn dropping_keeps_the_open()
         begins_with (slice_index_or (items_left b) j d).prefix v ≡ false }
 {}
 
-// Limits.
-
-/// The greatest number of items of a round.
+/// How many items a round has at most.
 pub fn greatest_round_is()
     ensures { ROUND ≡ 64 }
 {}

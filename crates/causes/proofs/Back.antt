@@ -6,7 +6,7 @@ use Rattle.std.proofs.lemmas.Bool.{eq-eqb}
 use Rattle.guest_code.specs.declared.limits.TheConstants.{THREADS, VARIABLES}
 use Rattle.guest_code.specs.Program.{Program, IsWellFormed}
 use Rattle.causes.specs.declared.event.Event.{Event}
-use Rattle.causes.specs.declared.wanted.Wanted.{Wanted}
+use Rattle.causes.specs.declared.backward_slice.BackwardSlice.{BackwardSlice}
 use Rattle.lint.specs.Uses.{is, variable_used}
 use Rattle.causes.specs.Events.{is_use}
 use Rattle.causes.specs.Causes.{is_needed, marks_in}
@@ -15,7 +15,7 @@ use Rattle.causes.specs.inner.Keeping.{IsMovedBefore, needs}
 use Rattle.causes.proofs.Following.{needs_alike, one_more, taken_on}
 use Rattle.causes.proofs.Places.{marked_at, rest_marked, set_at, up_to}
 
-module _ (p : Program) (events : List Event) (k : ℕ) (d : Event) (old : Wanted)
+module _ (p : Program) (events : List Event) (k : ℕ) (d : Event) (old : BackwardSlice)
     (f : IsWellFormed p) (l : k < length events) (v : IsValidEvent p (get_or events k d))
     (w : IsWanted (take (k + 1) events) (rest_marked p events (k + 1)) old) where
   is_mark : (mark : Bool) → mark ≡ needs p old (get_or events k d) →
@@ -23,7 +23,7 @@ module _ (p : Program) (events : List Event) (k : ℕ) (d : Event) (old : Wanted
   is_mark mark e = e ∙ needs_alike p (take (k + 1) events) (rest_marked p events (k + 1)) old
       (get_or events k d) f v w
 
-  pub wanted_back : (mark : Bool) (new : Wanted) → mark ≡ needs p old (get_or events k d) →
+  pub wanted_back : (mark : Bool) (new : BackwardSlice) → mark ≡ needs p old (get_or events k d) →
       IsMovedBefore (get_or events k d) mark old new →
       IsWanted (take k events) (rest_marked p events k) new
   wanted_back mark new e h = subst (λ ms. IsWanted (take k events) ms new)

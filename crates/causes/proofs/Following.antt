@@ -5,7 +5,7 @@ use Rattle.std.specs.List.{list_any, count_by}
 use Rattle.guest_code.specs.declared.limits.TheConstants.{LOCALS, THREADS, VARIABLES}
 use Rattle.guest_code.specs.Program.{Program, IsWellFormed}
 use Rattle.causes.specs.declared.event.Event.{Event}
-use Rattle.causes.specs.declared.wanted.Wanted.{Wanted}
+use Rattle.causes.specs.declared.backward_slice.BackwardSlice.{BackwardSlice}
 use Rattle.lint.specs.Uses.{local_set}
 use Rattle.causes.specs.Events.{written_by, is_end, reads, writes, is_use, sets_local, uses_local}
 use Rattle.causes.specs.Asked.{asks_for}
@@ -25,18 +25,18 @@ any_alike f g zero h = refl
 any_alike f g (suc n) h = both (any_below f n) (any_below g n) (f n) (g n)
     (any_alike f g n (λ u l. h u (omega (arith, l)))) (h n (omega arith))
 
-read_alike : (before : List Event) (ms : List Marked) (w : Wanted) (o : Option ℕ) →
+read_alike : (before : List Event) (ms : List Marked) (w : BackwardSlice) (o : Option ℕ) →
     IsWanted before ms w → IfSome o (λ x. x < VARIABLES) → found w.read o ≡ is_read_from ms o
 read_alike before ms w None k l = refl
 read_alike before ms w (Some x) k l = k.read x l
 
-used_alike : (before : List Event) (ms : List Marked) (w : Wanted) (t : ℕ) (o : Option ℕ) →
+used_alike : (before : List Event) (ms : List Marked) (w : BackwardSlice) (t : ℕ) (o : Option ℕ) →
     IsWanted before ms w → t < THREADS → IfSome o (λ r. r < LOCALS) →
     found (slice_index_or w.used t []) o ≡ flows_on ms t o
 used_alike before ms w t None k m l = refl
 used_alike before ms w t (Some r) k m l = k.used t r m l
 
-missed_alike : (before : List Event) (ms : List Marked) (w : Wanted) (t : ℕ) (o : Option ℕ) →
+missed_alike : (before : List Event) (ms : List Marked) (w : BackwardSlice) (t : ℕ) (o : Option ℕ) →
     IsWanted before ms w → IfSome o (λ x. x < VARIABLES) →
     is_missed_in w t o ≡ is_missed before ms t o
 missed_alike before ms w t None k l = refl
@@ -45,7 +45,8 @@ missed_alike before ms w t (Some x) k l =
     (λ u m. ap (λ b. not (nat_eq u t) && (b && nat_lt 0 (count w.uses u x))) (k.next u x m l)
     ∙ ap (λ n. not (nat_eq u t) && (is_next ms u x && nat_lt 0 n)) (k.uses u x m l))
 
-pub needs_alike : (p : Program) (before : List Event) (ms : List Marked) (w : Wanted) (e : Event) →
+pub needs_alike : (p : Program) (before : List Event) (ms : List Marked) (w : BackwardSlice)
+    (e : Event) →
     IsWellFormed p → IsValidEvent p e → IsWanted before ms w →
     needs p w e ≡ is_needed p before ms e
 needs_alike p before ms w e f v k =
@@ -82,7 +83,7 @@ one_off true n m h = let g : m ≡ n + 1 = h in omega (arith, g)
 one_off false n m h = let g : m ≡ n + 0 = h in omega (arith, g)
 
 pub taken_on : (before : List Event) (ms : List Marked) (e : Event) (mark : Bool)
-    (old new : Wanted) → IsMovedBefore e mark old new → IsWanted (before ++ e ∷ []) ms old →
+    (old new : BackwardSlice) → IsMovedBefore e mark old new → IsWanted (before ++ e ∷ []) ms old →
     IsWanted before (record { event = e; mark = mark } ∷ ms) new
 taken_on before ms e mark old new h k = record {
   read = λ x l. h.read x l ∙ ap (λ b. (mark && reads x e) || (not (writes x e) && b)) (k.read x l);

@@ -12,8 +12,8 @@ use Rattle.replay.specs.declared.run.Act.TheVariants.{Cas as Swaps}
 use Rattle.explain.specs.declared.explanation.Explanation.{Explanation}
 use Rattle.explain.specs.declared.explanation.Holder.{Holder}
 use Rattle.explain.specs.Blocked.{mutex_of}
-use Rattle.explain.specs.declared.standing.Reason.{Reason}
-use Rattle.explain.specs.declared.standing.Standing.{Standing}
+use Rattle.explain.specs.declared.thread_state.Reason.{Reason}
+use Rattle.explain.specs.declared.thread_state.ThreadState.{ThreadState}
 use Rattle.explain.specs.declared.step.Step.{Step}
 use Rattle.causes.specs.declared.event.Deed.{Deed}
 use Rattle.causes.specs.declared.event.Deed.TheVariants.{Stepped, Blocked}
@@ -197,13 +197,13 @@ opening_valid p steps all t (suc n) f l = all_valid p _ _
     (opening_valid p steps (all_after all t (local_events t None (code_of p t) 0 0 (row all t)))
     (t + 1) n f (omega (arith, l)))
 
-blocked_valid : (p : Program) (holders : List (Option Holder)) (standings : List Standing)
-    (t n : ℕ) → IsWellFormed p → All (IsValidEvent p) (blocked_from p holders standings t n)
-blocked_valid p holders standings t zero f = none_valid p
-blocked_valid p holders standings t (suc n) f = all_valid p _ _
-    (one (slice_get standings t)) (blocked_valid p holders standings (t + 1) n f)
+blocked_valid : (p : Program) (holders : List (Option Holder)) (thread_states : List ThreadState)
+    (t n : ℕ) → IsWellFormed p → All (IsValidEvent p) (blocked_from p holders thread_states t n)
+blocked_valid p holders thread_states t zero f = none_valid p
+blocked_valid p holders thread_states t (suc n) f = all_valid p _ _
+    (one (slice_get thread_states t)) (blocked_valid p holders thread_states (t + 1) n f)
   where
-    blocked_event : Standing → Reason → Instruction → Event
+    blocked_event : ThreadState → Reason → Instruction → Event
     blocked_event s r i = record {
       thread = t;
       step = None;
@@ -212,7 +212,7 @@ blocked_valid p holders standings t (suc n) f = all_valid p _ _
       deed = Blocked r (owner_for holders (mutex_of r));
     }
 
-    here : (s : Standing) (r : Option Reason) (o : Option Instruction) →
+    here : (s : ThreadState) (r : Option Reason) (o : Option Instruction) →
         slice_get (code_of p t) s.instruction ≡ o →
         All (IsValidEvent p) (listed (blocked_by holders t s r o))
     here s None o e = none_valid p
@@ -220,7 +220,7 @@ blocked_valid p holders standings t (suc n) f = all_valid p _ _
     here s (Some r) (Some i) e = more_valid p (blocked_event s r i) []
         (event_there p (blocked_event s r i) f e) (none_valid p)
 
-    one : (o : Option Standing) → All (IsValidEvent p) (listed (blocked_in p holders t o))
+    one : (o : Option ThreadState) → All (IsValidEvent p) (listed (blocked_in p holders t o))
     one None = none_valid p
     one (Some s) = here s s.reason (slice_get (code_of p t) s.instruction) refl
 
@@ -228,8 +228,8 @@ pub course_valid : (p : Program) (told : Explanation) → IsWellFormed p →
     All (IsValidEvent p) (course p told)
 course_valid p told f = all_valid p _ _
     (opening_valid p told.steps.items all_zero 0 (length p.threads) f (omega arith))
-    (unless (list_any (λ (s : Standing). is_stopped s.status) told.standings.items) _
-    (blocked_valid p told.holders.items told.standings.items 0 (length p.threads) f))
+    (unless (list_any (λ (s : ThreadState). is_stopped s.status) told.thread_states.items) _
+    (blocked_valid p told.holders.items told.thread_states.items 0 (length p.threads) f))
   where
     unless : (b : Bool) (es : List Event) → All (IsValidEvent p) es →
         All (IsValidEvent p) (if b then [] else es)

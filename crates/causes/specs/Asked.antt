@@ -5,8 +5,8 @@ use Rattle.guest_code.specs.declared.program.Instruction.{Instruction}
 use Rattle.guest_code.specs.declared.program.Instruction.TheVariants.{Unlock, Wait, Release}
 use Rattle.guest_code.specs.Program.{Program, code_of}
 use Rattle.explain.specs.declared.explanation.Holder.{Holder}
-use Rattle.explain.specs.declared.standing.Reason.{Reason}
-use Rattle.explain.specs.declared.standing.Reason.TheVariants as reasons
+use Rattle.explain.specs.declared.thread_state.Reason.{Reason}
+use Rattle.explain.specs.declared.thread_state.Reason.TheVariants as reasons
 use Rattle.causes.specs.declared.event.Deed.{Deed}
 use Rattle.causes.specs.declared.event.Deed.TheVariants.{Stepped, Ran, Blocked}
 use Rattle.causes.specs.declared.event.Event.{Event}

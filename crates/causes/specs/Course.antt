@@ -11,8 +11,8 @@ use Rattle.semantics.specs.Expressions.{value_of_expression, is_zero}
 use Rattle.semantics.specs.Ends.{is_stopped}
 use Rattle.explain.specs.declared.explanation.Explanation.{Explanation}
 use Rattle.explain.specs.declared.explanation.Holder.{Holder}
-use Rattle.explain.specs.declared.standing.Reason.{Reason}
-use Rattle.explain.specs.declared.standing.Standing.{Standing}
+use Rattle.explain.specs.declared.thread_state.Reason.{Reason}
+use Rattle.explain.specs.declared.thread_state.ThreadState.{ThreadState}
 use Rattle.explain.specs.declared.step.Step.{Step}
 use Rattle.explain.specs.Blocked.{mutex_of}
 use Rattle.causes.specs.declared.event.Deed.TheVariants.{Stepped, Ran, Blocked}
@@ -132,25 +132,25 @@ owner_for holders (Some m) = slice_index_or holders m None
 
 -- thread t can't go on, for this reason
 abbrev pub blocked_by :
-    List (Option Holder) → ℕ → Standing → Option Reason → Option Instruction → Option Event
-blocked_by holders t standing None i = None
-blocked_by holders t standing (Some reason) None = None
-blocked_by holders t standing (Some reason) (Some i) = Some (record {
+    List (Option Holder) → ℕ → ThreadState → Option Reason → Option Instruction → Option Event
+blocked_by holders t thread_state None i = None
+blocked_by holders t thread_state (Some reason) None = None
+blocked_by holders t thread_state (Some reason) (Some i) = Some (record {
   thread = t;
   step = None;
-  instruction = standing.instruction;
+  instruction = thread_state.instruction;
   statement = i;
   deed = Blocked reason (owner_for holders (mutex_of reason));
 })
 
-abbrev pub blocked_in : Program → List (Option Holder) → ℕ → Option Standing → Option Event
+abbrev pub blocked_in : Program → List (Option Holder) → ℕ → Option ThreadState → Option Event
 blocked_in p holders t None = None
 blocked_in p holders t (Some s) =
     blocked_by holders t s s.reason (slice_get (code_of p t) s.instruction)
 
 -- the event of thread t, where these are all threads and it can't go on
-abbrev pub blocked_at : Program → List (Option Holder) → List Standing → ℕ → Option Event
-blocked_at p holders standings t = blocked_in p holders t (slice_get standings t)
+abbrev pub blocked_at : Program → List (Option Holder) → List ThreadState → ℕ → Option Event
+blocked_at p holders thread_states t = blocked_in p holders t (slice_get thread_states t)
 
 -- an event as a list, if there is one
 abbrev pub listed : Option Event → List Event
@@ -159,17 +159,18 @@ listed (Some e) = e ∷ []
 
 -- those of n threads from t on that can't go on
 abbrev pub blocked_from :
-    Program → List (Option Holder) → List Standing → ℕ → ℕ → List Event
-blocked_from p holders standings t zero = []
-blocked_from p holders standings t (suc n) =
-    listed (blocked_at p holders standings t) ++ blocked_from p holders standings (t + 1) n
+    Program → List (Option Holder) → List ThreadState → ℕ → ℕ → List Event
+blocked_from p holders thread_states t zero = []
+blocked_from p holders thread_states t (suc n) =
+    listed (blocked_at p holders thread_states t) ++ blocked_from p holders thread_states (t + 1) n
 
 -- the threads that can't go on, where none stopped
-abbrev pub all_blocked : Program → List (Option Holder) → List Standing → List Event
-all_blocked p holders standings = if list_any (λ s. is_stopped s.status) standings then [] else
-    blocked_from p holders standings 0 (length p.threads)
+abbrev pub all_blocked : Program → List (Option Holder) → List ThreadState → List Event
+all_blocked p holders thread_states =
+    if list_any (λ s. is_stopped s.status) thread_states then [] else
+    blocked_from p holders thread_states 0 (length p.threads)
 
 -- what happens in a run that is explained so
 abbrev pub course : Program → Explanation → List Event
 course p told = opening_from p told.steps.items all_zero 0 (length p.threads)
-    ++ all_blocked p told.holders.items told.standings.items
+    ++ all_blocked p told.holders.items told.thread_states.items

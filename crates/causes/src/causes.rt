@@ -1,4 +1,4 @@
-//! The cause of how a run ended.
+//! The events of a run, with marks on those that are the cause of how it ended.
 
 ghost use Rattle.std.specs.Prelude.{◌≡◌, ◌<◌, All, IfOk, length, slice_index_or, false, None, if◌then◌else◌};
 ghost use Rattle.causes.specs.Causes.{AreStepMarks, event_at};
@@ -6,15 +6,15 @@ ghost use Rattle.causes.specs.Needs.{AreMarks};
 ghost use Rattle.causes.specs.Told.{Tells};
 ghost use Rattle.causes.specs.inner.Wanting.{IsValidEvent};
 
+use crate::backward_slice::BackwardSlice;
 use crate::event::Event;
 use crate::events::events_of;
 use crate::failure::{Failure, failure_of};
-use crate::wanted::Wanted;
 use explain::Explanation;
 use guest_code::program::Program;
 use std::alloc::{AllocError, Global};
 
-/// What happened in a run, and which of it is in the cause of how it ended.
+/// The events of a run, and which of them are in the cause of how it ended.
 #[derive(Debug, Drop)]
 pub struct Causes {
     events: Vec<Event>,
@@ -24,7 +24,8 @@ pub struct Causes {
 }
 
 impl Causes {
-    /// The events of a run that is explained, and the cause of how it ended.
+    /// The events of the run that an explanation tells, and which of them are in the cause of how
+    /// it ended.
     ///
     /// # Errors
     ///
@@ -50,28 +51,29 @@ impl Causes {
         })
     }
 
-    /// What happened in the run, in its order.
+    /// The events of the run, in their order.
     pub fn events(&self) -> &[Event]
         ensures { result.now ≡ self.now.events.items }
     {
         self.events.as_slice()
     }
 
-    /// For each event whether it is in the cause.
+    /// For each event, in order, whether it is in the cause of how the run ended.
     pub fn marks(&self) -> &[bool]
         ensures { result.now ≡ self.now.marks.items }
     {
         self.marks.as_slice()
     }
 
-    /// For each step whether it is in the cause, or what its thread did by itself after it.
+    /// For each step, in order, whether an event of the step, or of the local run after it, is in
+    /// the cause of how the run ended.
     pub fn steps(&self) -> &[bool]
         ensures { result.now ≡ self.now.steps.items }
     {
         self.steps.as_slice()
     }
 
-    /// Where a thread stopped first; `None` where none did.
+    /// The first event in which a thread stopped in an error; `None` where no thread did.
     pub fn failure(&self) -> Option<Failure>
         ensures { result ≡ self.now.failure }
     {
@@ -79,25 +81,28 @@ impl Causes {
     }
 }
 
-// For each event whether it is in the cause.
+// For each event, in order, whether it is in the cause of how the run ended: whether it is an end
+// of the run, or an event of the cause depends on it. The events are taken from the last to the
+// first.
 fn marks_of(alloc: Global, program: &Program, events: &[Event]) -> Result<Vec<bool>, AllocError>
     requires { All (IsValidEvent program.now) events.now }
     ensures { IfOk result (λ v. AreMarks program.now events.now v.items) }
 {
     program.keeps_limits();
-    let mut wanted = Wanted::nothing(alloc, program, events);
+    let mut backward_slice = BackwardSlice::at_end(alloc, program, events);
     let mut marks = vec![in alloc; false; events.len()]?;
     let mut at = events.len();
     'events: while at > 0 {
         at -= 1;
-        let needed = wanted.needs(program, &events[at]);
-        wanted.move_before(&events[at], needed)?;
+        let needed = backward_slice.needs(program, &events[at]);
+        backward_slice.take_event(&events[at], needed)?;
         marks[at] = needed;
     }
     Ok(marks)
 }
 
-// For each of `count` steps whether an event of that step is marked.
+// For each of `count` steps, in order, whether an event of the step, or of the local run after it,
+// is marked.
 fn step_marks_of(
     alloc: Global,
     count: usize,
@@ -117,7 +122,8 @@ fn step_marks_of(
     Ok(steps)
 }
 
-// The step of the event at place `at`, where that event is marked and has a step.
+// The place of the step to which the event at place `at` belongs; `None` where the event isn't
+// marked, or belongs to no step.
 fn marked_step(events: &[Event], marks: &[bool], at: usize) -> Option<usize>
     requires { at < length events.now }
     ensures { result ≡ (if slice_index_or marks.now at false then (event_at events.now at).step

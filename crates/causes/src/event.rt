@@ -1,4 +1,4 @@
-//! One thing that happens in a run.
+//! One event of a run: a step, a statement of a local run, or that a thread is blocked.
 
 ghost use Rattle.std.specs.Prelude.{◌≡◌};
 ghost use Rattle.lint.specs.Uses.{local_set, variable_read};
@@ -15,21 +15,21 @@ use semantics::state::Stop;
 pub enum Deed {
     /// The step of a visible statement: what it did, and, where the thread stopped at it, why.
     Stepped(Act, Option<Stop>),
-    /// A statement that the thread carries out by itself: the value of its expression; 0 of a jump
-    /// that has none.
+    /// A statement that the thread carries out in a local run: the value of its expression; 0 of a
+    /// jump that has none.
     Ran(i64),
-    /// At the end of the run the thread can't go on, for this reason. Where it waits for a mutex:
-    /// who owns that.
+    /// The thread is blocked at the end of the run, for this reason. Where it waits for a mutex:
+    /// the owner of that, and since which step.
     Blocked(Reason, Option<Holder>),
 }
 
-/// One thing that happens in a run.
+/// One event of a run: a step, a statement of a local run, or that a thread is blocked at its end.
 #[derive(Clone, Copy, Debug, PartialEq, Eq)]
 pub struct Event {
     /// The thread, by its number.
     pub thread: u8,
-    /// The place of the step that the event is, or after which its thread ran by itself. `None`
-    /// before the first step, and of a thread that can't go on.
+    /// The place of the step that the event is, or to whose local run it belongs. `None` before the
+    /// first step, and where the event is that a thread is blocked.
     pub step: Option<usize>,
     /// The number of the instruction.
     pub instruction: usize,
@@ -40,14 +40,14 @@ pub struct Event {
 }
 
 impl Event {
-    /// The local that the event sets, if it sets one.
+    /// The local that the event's statement sets; `None` where it sets none.
     pub fn local_set(&self) -> Option<usize>
         ensures { result ≡ local_set self.now.statement }
     {
         uses::local_set(&self.statement)
     }
 
-    /// The value that the event's local gets, or that its expression has; 0 where it has neither.
+    /// The value that the event gives a local, or that its expression has; 0 where it has neither.
     pub fn value(&self) -> i64
         ensures { result ≡ value_by self.now.deed }
     {
@@ -60,14 +60,14 @@ impl Event {
         }
     }
 
-    /// The variable that the event reads, if it reads one.
+    /// The variable that the event's statement reads; `None` where it reads none.
     pub fn variable_read(&self) -> Option<usize>
         ensures { result ≡ variable_read self.now.statement }
     {
         uses::variable_read(&self.statement)
     }
 
-    /// The variable that the event writes, if it writes one: a `cas` that misses writes none.
+    /// The variable that the event writes; `None` where it writes none, as a `cas` that misses.
     pub fn variable_written(&self) -> Option<usize>
         ensures { result ≡ written_by self.now.statement self.now.deed }
     {
@@ -81,7 +81,7 @@ impl Event {
         }
     }
 
-    /// Why the thread stops in this event, if it does.
+    /// Why the thread stops in this event in an error; `None` where it doesn't.
     pub fn stop(&self) -> Option<Stop>
         ensures { result ≡ stop_by self.now.statement self.now.deed }
     {
@@ -99,21 +99,22 @@ impl Event {
         matches!(self.deed, Deed::Stepped(_, _))
     }
 
-    /// Whether the event is that the thread can't go on.
+    /// Whether the event is that its thread is blocked at the end of the run.
     pub fn is_blocked(&self) -> bool
         ensures { result ≡ is_blocked self.now.deed }
     {
         matches!(self.deed, Deed::Blocked(_, _))
     }
 
-    /// Whether the event is an end of the run: the thread stops, or can't go on.
+    /// Whether the event is an end of the run: its thread stops in it in an error, or is blocked.
     pub fn is_end(&self) -> bool
         ensures { result ≡ is_end self.now }
     {
         self.stop().is_some() || self.is_blocked()
     }
 
-    /// How many of the next instructions the event passes over.
+    /// How many of the next instructions of its thread the event jumps over; 0 where it is no jump,
+    /// or a test that holds.
     pub fn jump(&self) -> usize
         ensures { result ≡ jump_by self.now.statement self.now.deed }
     {

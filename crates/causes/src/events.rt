@@ -1,4 +1,4 @@
-//! The list of what happens in a run.
+//! The list of the events of a run.
 
 ghost use Rattle.std.specs.Prelude.{◌≡◌, ◌<◌, ◌+◌, ◌++◌, ◌∷◌, List, [], length, drop, IfOk, OnOk, slice_get, slice_set};
 ghost use Rattle.std.specs.List.{list_any};
@@ -14,16 +14,16 @@ ghost use Rattle.causes.specs.Events.{value_by};
 ghost use Rattle.causes.specs.inner.Running.{events_on, locals_on};
 
 use crate::event::{Deed, Event};
-use explain::{Explanation, Holder, Standing, Step};
+use explain::{Explanation, Holder, Step, ThreadState};
 use guest_code::limits::{LOCALS, THREADS};
 use guest_code::program::{Instruction, Program};
-use semantics::expression_at;
+use semantics::expression_value;
 use semantics::state::Stop;
 use std::alloc::{AllocError, Global};
 
-/// What happens in the run that is explained, in its order: what the threads do by themselves
-/// before the first step, thread by thread; then each step, followed by what its thread does by
-/// itself after it; then, where no thread stopped, each thread that can't go on.
+/// The events of the run that an explanation tells, in their order: those of the local runs before
+/// the first step, thread by thread; then each step, followed by the events of its local run; then,
+/// where no thread stopped, that a thread is blocked, for each thread that is.
 ///
 /// # Errors
 ///
@@ -40,27 +40,28 @@ pub fn events_of(
         events: Vec::new(alloc),
         locals: [[0; LOCALS]; THREADS],
     };
-    log.put_opening(program)?;
+    log.put_initial_runs(program)?;
     log.put_steps(program, explanation.steps())?;
-    if !some_stopped(explanation.standings()) {
+    if !some_stopped(explanation.thread_states()) {
         put_blocked(
             &mut log.events,
             program,
             explanation.holders(),
-            explanation.standings(),
+            explanation.thread_states(),
         )?;
     }
     Ok(log.events)
 }
 
-// The events so far, with the values of each thread's locals after them.
+// The events of a run so far, with the values of each thread's locals after them.
 #[derive(Drop)]
 struct EventLog {
     events: Vec<Event>,
     locals: [[i64; LOCALS]; THREADS],
 }
 
-// Where a thread runs by itself: after which step, and from which instruction on.
+// A local run of a thread: the step that it follows, none before the first step, and the number of
+// the instruction with which it begins.
 #[derive(Clone, Copy)]
 struct LocalRun {
     thread: u8,
@@ -69,8 +70,8 @@ struct LocalRun {
 }
 
 impl EventLog {
-    // Adds what each thread does by itself before the first step.
-    fn put_opening(&mut self, program: &Program) -> Result<(), AllocError>
+    // Adds the events of each thread's local run before the first step, thread by thread.
+    fn put_initial_runs(&mut self, program: &Program) -> Result<(), AllocError>
         ensures { OnOk result ((steps : List Step) →
             self.new.events.items ++ events_from program.now self.new.locals 0 steps
             ≡ self.old.events.items
@@ -83,12 +84,12 @@ impl EventLog {
                 step: None,
                 from: 0,
             };
-            self.put_run(program.code(thread), run)?;
+            self.put_local_run(program.code(thread), run)?;
         }
         Ok(())
     }
 
-    // Adds each step, with what its thread does by itself after that step.
+    // Adds, step by step, the event of each step and those of the local run after it.
     fn put_steps(&mut self, program: &Program, steps: &[Step]) -> Result<(), AllocError>
         ensures { OnOk result (self.new.events.items
             ≡ self.old.events.items ++ events_from program.now self.old.locals 0 steps.now) }
@@ -103,7 +104,8 @@ impl EventLog {
         Ok(())
     }
 
-    // Adds the step at place `at`, and what its thread does by itself after that step.
+    // Adds the event of the step at place `at` of the schedule, and those of the local run after
+    // it.
     fn put_step(&mut self, code: &[Instruction], at: usize, step: &Step) -> Result<(), AllocError>
         requires valid { (p : Program) × IsValidCode p code.now }
         requires thread { step.now.line.thread < THREADS }
@@ -116,7 +118,7 @@ impl EventLog {
         let Some(statement) = instruction_at(code, step.instruction) else {
             return Ok(());
         };
-        self.put_visible(visible_event(at, step, statement))?;
+        self.put_visible_event(visible_event(at, step, statement))?;
         if step.next == step.instruction {
             return Ok(());
         }
@@ -125,11 +127,11 @@ impl EventLog {
             step: Some(at),
             from: step.instruction + 1,
         };
-        self.put_run(code, run)
+        self.put_local_run(code, run)
     }
 
-    // Adds the event of a step, and sets the local that the step sets.
-    fn put_visible(&mut self, event: Event) -> Result<(), AllocError>
+    // Adds the event of a step, and gives the local that the step sets, if any, its new value.
+    fn put_visible_event(&mut self, event: Event) -> Result<(), AllocError>
         requires valid { (p : Program) × IsValid p event.statement }
         requires thread { event.thread < THREADS }
         ensures events { OnOk result (self.new.events.items
@@ -143,8 +145,8 @@ impl EventLog {
         Ok(())
     }
 
-    // Adds what a thread does by itself in a local run.
-    fn put_run(&mut self, code: &[Instruction], run: LocalRun) -> Result<(), AllocError>
+    // Adds the events of a local run, and gives the locals that it sets their new values.
+    fn put_local_run(&mut self, code: &[Instruction], run: LocalRun) -> Result<(), AllocError>
         requires valid { (p : Program) × IsValidCode p code.now }
         requires thread { run.thread < THREADS }
         ensures events { OnOk result (self.new.events.items ≡ self.old.events.items
@@ -163,21 +165,23 @@ impl EventLog {
     }
 }
 
-// The instruction of this number in a code, if there is one.
+// The instruction of this number in a thread's code; `None` where there is none.
 fn instruction_at(code: &[Instruction], number: usize) -> Option<Instruction>
     ensures { result ≡ slice_get code.now number }
 {
     code.get(number).copied()
 }
 
-// Whether some thread has stopped.
-fn some_stopped(standings: &[Standing]) -> bool
-    ensures { result ≡ list_any (λ s. is_stopped s.status) standings.now }
+// Whether one of the threads in these states has stopped in an error.
+fn some_stopped(thread_states: &[ThreadState]) -> bool
+    ensures { result ≡ list_any (λ s. is_stopped s.status) thread_states.now }
 {
-    standings.iter().any(|standing| standing.is_stopped())
+    thread_states
+        .iter()
+        .any(|thread_state| thread_state.is_stopped())
 }
 
-// The event of the step at place `at`, which carries a statement out.
+// The event of the step at place `at` of the schedule, which carries out `statement`.
 fn visible_event(at: usize, step: &Step, statement: Instruction) -> Event
     ensures { result ≡ visible_event at step.now statement }
 {
@@ -190,7 +194,8 @@ fn visible_event(at: usize, step: &Step, statement: Instruction) -> Event
     }
 }
 
-// Why a thread stopped in its step; `None` where it didn't, or only after that at an assertion.
+// Why a thread stopped at the statement of its step, where `stop` is why it had stopped after the
+// step and its local run. `None` where it hadn't, or at an assertion, which is in the local run.
 fn stop_in_step(stop: Option<Stop>) -> Option<Stop>
     ensures { result ≡ stop_in_step stop }
 {
@@ -200,7 +205,7 @@ fn stop_in_step(stop: Option<Stop>) -> Option<Stop>
     }
 }
 
-// Sets the local that an event sets, if it sets one.
+// Gives the local that an event sets, if it sets one, its new value in the locals of its thread.
 fn set_local(locals: &mut [i64; LOCALS], event: &Event)
     requires { (p : Program) × IsValid p event.now.statement }
     ensures { locals.new
@@ -211,7 +216,8 @@ fn set_local(locals: &mut [i64; LOCALS], event: &Event)
     }
 }
 
-// Adds what a thread does by itself in a local run, and sets the locals that it sets.
+// Adds the events of a local run of a thread with this code, and gives the locals that it sets
+// their new values.
 fn put_local_events(
     events: &mut Vec<Event>,
     code: &[Instruction],
@@ -238,8 +244,9 @@ fn put_local_events(
     Ok(())
 }
 
-// Adds what a thread does by itself at an instruction. The answer is how many of the next ones are
-// passed over; `None` where it doesn't go on by itself.
+// Adds the event of an instruction of a local run, the one of number `at`, and sets its local, if
+// any. The answer is how many of the next instructions are jumped over; `None` where the local run
+// ends: before a visible statement, of which nothing is added, or after an assertion that failed.
 fn put_local_event(
     events: &mut Vec<Event>,
     statement: &Instruction,
@@ -258,7 +265,7 @@ fn put_local_event(
     let value = match statement {
         Instruction::Set { value, .. }
         | Instruction::Assert(value)
-        | Instruction::SkipIfZero(value, _) => expression_at(locals, value),
+        | Instruction::SkipIfZero(value, _) => expression_value(locals, value),
         Instruction::Skip(_) => 0,
         _ => return Ok(None),
     };
@@ -277,24 +284,24 @@ fn put_local_event(
     Ok(Some(event.jump()))
 }
 
-// Adds an event for each thread that can't go on.
+// Adds, in the order of threads, the event of each thread that is blocked at the end of the run.
 fn put_blocked(
     events: &mut Vec<Event>,
     program: &Program,
     holders: &[Option<Holder>],
-    standings: &[Standing],
+    thread_states: &[ThreadState],
 ) -> Result<(), AllocError>
     ensures { OnOk result (events.new.items ≡ events.old.items
-        ++ blocked_from program.now holders.now standings.now 0 (length program.now.threads)) }
+        ++ blocked_from program.now holders.now thread_states.now 0 (length program.now.threads)) }
 {
     for thread in 0..program.threads() {
-        put_some(events, blocked_at(program, holders, standings, thread))?;
+        push_if_some(events, blocked_at(program, holders, thread_states, thread))?;
     }
     Ok(())
 }
 
-// Adds an event to a list, if there is one.
-fn put_some(events: &mut Vec<Event>, event: Option<Event>) -> Result<(), AllocError>
+// Adds an event to the end of a list; nothing for `None`.
+fn push_if_some(events: &mut Vec<Event>, event: Option<Event>) -> Result<(), AllocError>
     ensures { OnOk result (events.new.items ≡ events.old.items ++ listed event) }
 {
     if let Some(event) = event {
@@ -303,29 +310,30 @@ fn put_some(events: &mut Vec<Event>, event: Option<Event>) -> Result<(), AllocEr
     Ok(())
 }
 
-// The event that a thread can't go on, where that is so.
+// The event by which a thread is blocked at the end of the run; `None` where this thread isn't.
 fn blocked_at(
     program: &Program,
     holders: &[Option<Holder>],
-    standings: &[Standing],
+    thread_states: &[ThreadState],
     thread: u8,
 ) -> Option<Event>
     requires { thread < length program.now.threads }
-    ensures { result ≡ blocked_at program.now holders.now standings.now thread }
+    ensures { result ≡ blocked_at program.now holders.now thread_states.now thread }
 {
-    let standing = standings.get(thread as usize)?;
-    let reason = standing.reason?;
-    let statement = program.code(thread).get(standing.instruction).copied()?;
+    let thread_state = thread_states.get(thread as usize)?;
+    let reason = thread_state.reason?;
+    let statement = program.code(thread).get(thread_state.instruction).copied()?;
     Some(Event {
         thread,
         step: None,
-        instruction: standing.instruction,
+        instruction: thread_state.instruction,
         statement,
         deed: Deed::Blocked(reason, owner_for(holders, reason.mutex())),
     })
 }
 
-// Who owns a mutex, where there is one and it is owned.
+// The owner of a mutex, and since which step, by the owners of all mutexes. `None` where no mutex
+// is given, or nobody owns it.
 fn owner_for(holders: &[Option<Holder>], mutex: Option<usize>) -> Option<Holder>
     ensures { result ≡ owner_for holders.now mutex }
 {

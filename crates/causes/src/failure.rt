@@ -1,4 +1,4 @@
-//! Where a run failed.
+//! The first event of a run in which a thread stopped in an error.
 
 ghost use Rattle.std.specs.Prelude.{◌≡◌, MatchOption, length, min};
 ghost use Rattle.std.specs.List.{count_by};
@@ -8,20 +8,22 @@ ghost use Rattle.causes.specs.Origins.{IsFailure, steps_up_to, stops};
 use crate::event::Event;
 use explain::Step;
 
-/// Where a thread stopped first.
+/// The first event of a run in which a thread stopped in an error.
 #[derive(Clone, Copy, Debug, PartialEq, Eq)]
 pub struct Failure {
     /// The place of the event among the events of the run.
     pub event: usize,
     /// The thread that stopped, by its number.
     pub thread: u8,
-    /// The step in which the thread stopped, or after which; `None` before the first step.
+    /// The place of the step in which, or in whose local run, the thread stopped; `None` before the
+    /// first step.
     pub step: Option<usize>,
-    /// How many switches up to that step were preempting, the one to it included.
+    /// How many preemptions the run has up to that step, that of the step included.
     pub preemptions: usize,
 }
 
-/// Where a thread stopped first; `None` where none did.
+/// The first of these events of a run in which a thread stopped in an error; `None` where no thread
+/// did. `steps` are the steps of the run.
 pub fn failure_of(steps: &[Step], events: &[Event]) -> Option<Failure>
     ensures { MatchOption result (NoneOf events.now stops 0 (length events.now))
         (IsFailure steps.now events.now) }
@@ -40,7 +42,8 @@ pub fn failure_of(steps: &[Step], events: &[Event]) -> Option<Failure>
     None
 }
 
-// How many of `all` steps are taken up to a step, that one included; 0 before the first step.
+// How many of a run's steps, which are `all`, lie up to the step at a place, that one included; 0
+// for `None`, which is before the first step.
 fn steps_up_to(step: Option<usize>, all: usize) -> usize
     ensures { result ≡ min (steps_up_to step) all }
 {
@@ -51,7 +54,7 @@ fn steps_up_to(step: Option<usize>, all: usize) -> usize
     }
 }
 
-// To how many of these steps a preempting switch led.
+// How many of these steps were preemptions.
 fn preemptions_in(steps: &[Step]) -> usize
     ensures { result ≡ count_by (λ s. s.line.preempting) steps.now }
 {

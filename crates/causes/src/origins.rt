@@ -1,4 +1,4 @@
-//! Where values come from.
+//! Where the value of a local or a variable comes from, and who took a mutex.
 
 ghost use Rattle.std.specs.Prelude.{◌≡◌, ℕ, MatchOption};
 ghost use Rattle.causes.specs.Events.{sets_local, writes};
@@ -11,8 +11,8 @@ use lint::uses::is_in_option;
 use replay::Act;
 
 impl Causes {
-    /// The place of the last event before a place by which a thread set a local; `None` where the
-    /// local is still 0 as at the start.
+    /// The place of the last event before place `at` by which a thread set a local; `None` where
+    /// the local is still 0 there, as at the start.
     pub fn setter(&self, at: usize, thread: u8, local: usize) -> Option<usize>
         ensures { MatchOption result (NoneOf self.now.events.items (sets_local thread local) 0 at)
             (IsLastBefore self.now.events.items (sets_local thread local) at) }
@@ -20,8 +20,8 @@ impl Causes {
         last_before(self.events(), at, EventRole::Setter(thread, local))
     }
 
-    /// The place of the last event before a place that wrote a variable; `None` where the variable
-    /// still has its opening value.
+    /// The place of the last event before place `at` that wrote a variable; `None` where the
+    /// variable still has its initial value there.
     pub fn writer(&self, at: usize, variable: usize) -> Option<usize>
         ensures { MatchOption result (NoneOf self.now.events.items (writes variable) 0 at)
             (IsLastBefore self.now.events.items (writes variable) at) }
@@ -29,8 +29,8 @@ impl Causes {
         last_before(self.events(), at, EventRole::Writer(variable))
     }
 
-    /// The place of the event by which the thread that owns a mutex before a place took it; `None`
-    /// where nobody owns the mutex there.
+    /// The place of the event by which the thread that owns a mutex right before place `at` took
+    /// it; `None` where nobody owns the mutex there.
     pub fn taker(&self, at: usize, mutex: usize) -> Option<usize>
         ensures { MatchOption result
             ((k : ℕ) → ¬ IsTakenAt self.now.events.items mutex at k)
@@ -45,19 +45,19 @@ impl Causes {
     }
 }
 
-/// What an event that is sought does.
+/// What an event does to a local, a variable or a mutex, to search the events of a run for it.
 #[derive(Clone, Copy)]
 pub enum EventRole {
     /// The event sets this local of this thread.
     Setter(u8, usize),
     /// The event writes this variable.
     Writer(usize),
-    /// The event takes this mutex or gives it back.
+    /// The event takes this mutex or releases it.
     OwnerChanger(usize),
 }
 
 impl EventRole {
-    // Whether an event does this.
+    // Whether an event has this role.
     fn matches(self, event: &Event) -> bool
         ensures { result ≡ has_role self event.now }
     {
@@ -67,12 +67,13 @@ impl EventRole {
             }
             EventRole::Writer(variable) => is_in_option(variable, event.variable_written()),
             EventRole::OwnerChanger(mutex) => takes_mutex(event.deed, mutex)
-                || gives_mutex_back(event.deed, mutex),
+                || releases_mutex(event.deed, mutex),
         }
     }
 }
 
-// The place of the last event before place `at` that does what is sought.
+// The place of the last event before place `at` that has the role `sought`; `None` where there is
+// none.
 fn last_before(events: &[Event], at: usize, sought: EventRole) -> Option<usize>
     ensures { MatchOption result (NoneOf events.now (has_role sought) 0 at)
         (IsLastBefore events.now (has_role sought) at) }
@@ -87,7 +88,8 @@ fn last_before(events: &[Event], at: usize, sought: EventRole) -> Option<usize>
     None
 }
 
-// Whether a deed takes a mutex.
+// Whether what happens in an event is that its thread takes a mutex, by a `lock` or as the second
+// step of a `wait`.
 fn takes_mutex(deed: Deed, mutex: usize) -> bool
     ensures { result ≡ takes_by mutex deed }
 {
@@ -97,8 +99,9 @@ fn takes_mutex(deed: Deed, mutex: usize) -> bool
     }
 }
 
-// Whether a deed gives a mutex back.
-fn gives_mutex_back(deed: Deed, mutex: usize) -> bool
+// Whether what happens in an event is that its thread releases a mutex, by an `unlock` or as the
+// first step of a `wait`, and doesn't stop there since it doesn't own the mutex.
+fn releases_mutex(deed: Deed, mutex: usize) -> bool
     ensures { result ≡ gives_by mutex deed }
 {
     match deed {

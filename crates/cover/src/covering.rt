@@ -1,4 +1,4 @@
-//! Whether prefixes cover a program.
+//! Whether a list of prefixes covers a program, and what is wrong with it where it doesn't.
 
 ghost use Rattle.std.specs.Prelude.{◌≡◌, IfOk, IfErr, IfSome, IfNone, MatchResult, map, All, Contains};
 ghost use Rattle.std.specs.List.{list_any, find};
@@ -13,7 +13,7 @@ ghost use Rattle.items.specs.Items.{root_of};
 ghost use Rattle.cover.specs.CoverBy.{IsCoverBy, CoverErrorMeans};
 ghost use Rattle.cover.specs.inner.Reached.{IsReached, IsBare, IsOther};
 
-use crate::longer::push_children;
+use crate::children::push_children_or_self;
 use guest_code::laws::programs_are_well_formed;
 use guest_code::program::Program;
 use items::item::Item;
@@ -22,13 +22,13 @@ use std::alloc::{AllocError, Global};
 use std::collections::BTreeSet;
 use std::sync::Arc;
 
-/// Why prefixes cover no program.
+/// Why prefixes are no cover of a program.
 #[derive(Debug, Drop)]
 pub enum CoverError {
-    /// None of the prefixes begins with this one, and a schedule of the program that does lies
-    /// under none of them.
+    /// None of the prefixes begins with this one, and a schedule of the program begins with this
+    /// one and with none of the prefixes.
     Missing(Vec<u8>),
-    /// The first prefix begins the second.
+    /// Two of the prefixes: the second begins with the first.
     Nested(Vec<u8>, Vec<u8>),
     /// None of the program's schedules begins with this prefix.
     Unused(Vec<u8>),
@@ -46,14 +46,15 @@ impl From<AllocError> for CoverError {
     }
 }
 
-/// The items of the schedules that begin with these prefixes, in any order, where each schedule of
-/// the program begins with exactly one of them; pruned, each that sleep sets leave, and each prefix
-/// is one that they enter. A prefix that is given twice counts once.
+/// The items of these prefixes, in any order, where the prefixes cover the program: each complete
+/// schedule of the program begins with exactly one of them, and each of them begins some schedule.
+/// With sleep sets (`Reduced`) only the schedules and the prefixes count that they leave. A prefix
+/// that is given twice counts once.
 ///
 /// # Errors
 ///
-/// `Missing`, `Nested` or `Unused` where the prefixes are no such list, `OutOfMemory` where memory
-/// runs out.
+/// `Missing`, `Nested` or `Unused` where the prefixes don't cover the program, `OutOfMemory` where
+/// memory runs out.
 pub fn cover_by(
     alloc: Global,
     program: Arc<Program>,
@@ -67,18 +68,19 @@ pub fn cover_by(
 {
     programs_are_well_formed(&program);
     let root = Item::root(alloc, program)?;
-    match covered(alloc, mode, root, prefixes)? {
-        Ok(items) => match unreached(alloc, items.as_slice(), prefixes)? {
+    match covering_items(alloc, mode, root, prefixes)? {
+        Ok(items) => match unreached_error(alloc, items.as_slice(), prefixes)? {
             Some(error) => Err(error),
             None => Ok(items),
         },
-        Err(bare) => Err(missing(alloc, &bare, prefixes)?),
+        Err(bare) => Err(missing_error(alloc, &bare, prefixes)?),
     }
 }
 
-// Goes into the root until each item has a prefix that is listed. Where it comes to a complete
-// schedule that lies under none of the list, it answers that.
-fn covered(
+// Goes through the tree of schedules from `root` down to the prefixes that are listed: `Ok` with
+// the items of the listed prefixes that it reached, where each schedule begins with one of these;
+// `Err` with the item of a complete schedule that begins with no listed prefix, where it met one.
+fn covering_items(
     alloc: Global,
     mode: Mode,
     root: Item,
@@ -90,29 +92,30 @@ fn covered(
         (λ v. IsReached mode root.program (map (λ x. x.now) prefixes.now) v.items)
         (IsBare mode root.program (map (λ x. x.now) prefixes.now))) }
 {
-    let listed = set_of(alloc, prefixes)?;
+    let listed = prefix_set(alloc, prefixes)?;
     let mut items = Vec::new(alloc);
     let mut left = Vec::new(alloc);
     left.push(root)?;
     while let Some(item) = left.pop() {
         if listed.contains(item.prefix()) {
             items.push(item)?;
-        } else if push_children(&mut left, alloc, mode, &item)? {
+        } else if push_children_or_self(&mut left, alloc, mode, &item)? {
             return Ok(Err(item));
         }
     }
     Ok(Ok(items))
 }
 
-// The prefixes as a set.
-fn set_of<'a>(alloc: Global, prefixes: &[&'a [u8]]) -> Result<BTreeSet<&'a [u8]>, AllocError>
+// A set of these prefixes, to look them up in.
+fn prefix_set<'a>(alloc: Global, prefixes: &[&'a [u8]]) -> Result<BTreeSet<&'a [u8]>, AllocError>
     ensures { IfOk result (IsFromIterResult (λ x y. slice_cmp nat_cmp x.now y.now) prefixes.now) }
 {
     prefixes.iter().copied().collect(alloc)
 }
 
-// What is wrong with a prefix of the list that is that of no item.
-fn unreached(
+// The error for the first of the prefixes that none of the items has, `Nested` or `Unused`; `None`
+// where each prefix is that of an item.
+fn unreached_error(
     alloc: Global,
     items: &[Item],
     prefixes: &[&[u8]],
@@ -124,16 +127,16 @@ fn unreached(
         IfOk result (λ o. IfSome o (CoverErrorMeans mode p (map (λ x. x.now) prefixes.now))) }
 {
     let own = prefixes_of(alloc, items)?;
-    let reached = set_of(alloc, own.as_slice())?;
+    let reached = prefix_set(alloc, own.as_slice())?;
     for prefix in prefixes {
         if !reached.contains(*prefix) {
-            return Ok(Some(other(alloc, items, prefix)?));
+            return Ok(Some(nested_or_unused(alloc, items, prefix)?));
         }
     }
     Ok(None)
 }
 
-// The items' prefixes.
+// The prefixes of these items, in the items' order.
 fn prefixes_of(alloc: Global, items: &[Item]) -> Result<Vec<&[u8]>, AllocError>
     ensures { IfOk result (λ v.
         map (λ x. x.now) v.items ≡ map (λ i. i.prefix) items.now) }
@@ -145,21 +148,24 @@ fn prefixes_of(alloc: Global, items: &[Item]) -> Result<Vec<&[u8]>, AllocError>
     Ok(prefixes)
 }
 
-// Why a listed prefix is that of no item.
-fn other(alloc: Global, items: &[Item], prefix: &[u8]) -> Result<CoverError, AllocError>
+// The error for a prefix that none of the items has: `Nested` where it begins with an item's
+// prefix, else `Unused`.
+fn nested_or_unused(alloc: Global, items: &[Item], prefix: &[u8]) -> Result<CoverError, AllocError>
     ensures { IfOk result (IsOther items.now prefix.now) }
 {
     let inner = prefix.to_vec(alloc)?;
     for item in items {
-        if begins(item.prefix(), prefix) {
+        if is_prefix_of(item.prefix(), prefix) {
             return Ok(CoverError::Nested(item.prefix().to_vec(alloc)?, inner));
         }
     }
     Ok(CoverError::Unused(inner))
 }
 
-// What is missing where the item's complete schedule lies under none of the list.
-fn missing(alloc: Global, item: &Item, prefixes: &[&[u8]]) -> Result<CoverError, AllocError>
+// The error where the prefix of `item` is a complete schedule that begins with none of `prefixes`:
+// `Missing` with the shortest beginning of the schedule with which none of `prefixes` begins; where
+// one is longer than the schedule and begins with it, `Unused` with that one.
+fn missing_error(alloc: Global, item: &Item, prefixes: &[&[u8]]) -> Result<CoverError, AllocError>
     ensures { (p : Program) (mode : Mode) →
         IsBare mode p (map (λ x. x.now) prefixes.now) item.now →
         IfOk result (CoverErrorMeans mode p (map (λ x. x.now) prefixes.now)) }
@@ -170,32 +176,32 @@ fn missing(alloc: Global, item: &Item, prefixes: &[&[u8]]) -> Result<CoverError,
             return Ok(CoverError::Missing(schedule[..steps].to_vec(alloc)?));
         }
     }
-    match under(prefixes, schedule) {
+    match first_under(prefixes, schedule) {
         Some(longer) => Ok(CoverError::Unused(longer.to_vec(alloc)?)),
         None => Ok(CoverError::Missing(schedule.to_vec(alloc)?)),
     }
 }
 
-// Whether a listed prefix begins with this one.
+// Whether one of `prefixes` begins with `prefix`.
 fn has_under(prefixes: &[&[u8]], prefix: &[u8]) -> bool
     ensures { result ≡ list_any (λ x. begins_with prefix.now x.now) prefixes.now }
 {
-    prefixes.iter().any(|listed| begins(prefix, listed))
+    prefixes.iter().any(|listed| is_prefix_of(prefix, listed))
 }
 
-// The first listed prefix that begins with this one.
-fn under<'a>(prefixes: &[&'a [u8]], prefix: &[u8]) -> Option<&'a [u8]>
+// The first of `prefixes` that begins with `prefix`; `None` where none does.
+fn first_under<'a>(prefixes: &[&'a [u8]], prefix: &[u8]) -> Option<&'a [u8]>
     ensures { result ≡ find (λ x. begins_with prefix.now x.now) prefixes.now }
 {
     prefixes
         .iter()
         .copied()
-        .find(|listed| begins(prefix, listed))
+        .find(|listed| is_prefix_of(prefix, listed))
 }
 
-// Whether the second one begins with the first.
+// Whether the second list of steps begins with the first.
 #[tactic(auto, using(crate::proofs::Listed::starts))]
-fn begins(first: &[u8], second: &[u8]) -> bool
+fn is_prefix_of(first: &[u8], second: &[u8]) -> bool
     ensures { result ≡ begins_with first.now second.now }
 {
     second.starts_with(first)

@@ -1,4 +1,4 @@
-//! Laws of the definitions. A law is what its function ensures; the functions do nothing.
+//! Laws of covers. A law is what its function ensures; the functions do nothing.
 
 ghost use Rattle.std.specs.Prelude.{◌≡◌, ◌<◌, ◌≤◌, ℕ, true, false, List, map, All};
 ghost use Rattle.std.specs.List.{flat_map};
@@ -17,8 +17,8 @@ ghost use Rattle.cover.specs.Prefixes.{prefixes_of, IsComplete};
 
 // Covers.
 
-/// Each complete schedule of a program begins with the prefix of exactly one item of a cover;
-/// pruned, each that sleep sets leave.
+/// Each complete schedule of a program begins with the prefix of exactly one item of a cover; with
+/// sleep sets, each that they leave.
 pub fn each_schedule_begins_with_one_prefix()
     ensures complete { (p : Program) (bound : ℕ) (items : List ItemView) (w : List ℕ) →
         IsCover (Bounded bound) (root_of p) items → is_complete p (start p) w ≡ true →
@@ -28,8 +28,8 @@ pub fn each_schedule_begins_with_one_prefix()
         covers w items ≡ 1 }
 {}
 
-/// Over a cover of a program the sums of the items join to the sum of the program; and so over a
-/// cover of an item.
+/// The sums of the items of a cover of a program join to the sum of the program, and those of a
+/// cover of an item to the sum of the item.
 pub fn sums_over_a_cover_join()
     ensures program { (mode : Mode) (p : Program) (items : List ItemView) →
         IsCover mode (root_of p) items → whole p mode ≡ item_sums mode items }
@@ -37,20 +37,21 @@ pub fn sums_over_a_cover_join()
         IsCover mode item items → item_sum mode item ≡ item_sums mode items }
 {}
 
-/// An item of a cover whose prefix has more preemptions than the bound adds that something is
-/// beyond it, and nothing else.
+/// The sum of an item whose prefix has more preemptions than the bound says that schedules are
+/// beyond the bound, and nothing else.
 pub fn past_the_bound_nothing_is_summed()
     ensures { (i : ItemView) (bound : ℕ) → IsItem i → bound < preemptions i.program i.prefix →
         item_sum (Bounded bound) i ≡ with_beyond nothing true }
 {}
 
-/// Where none of an item's schedules is beyond a bound, its sum at each greater bound is the same.
+/// An item that has no schedule beyond a bound has the same sum at each greater bound.
 pub fn where_nothing_is_beyond_the_sum_stays()
     ensures { (i : ItemView) (b c : ℕ) → b ≤ c → (item_sum (Bounded b) i).beyond ≡ false →
         item_sum (Bounded c) i ≡ item_sum (Bounded b) i }
 {}
 
-/// Where each item of a cover gives way to a cover of its own, they all are a cover.
+/// Where each item of a cover is replaced by the items of a cover of it, all these together are a
+/// cover, too.
 pub fn covers_of_parts_are_a_cover()
     ensures { (mode : Mode) (item : ItemView) (items : List ItemView)
         (parts : ItemView → List ItemView) → IsCover mode item items →
@@ -67,8 +68,8 @@ pub fn prefixes_of_a_length_are_a_cover()
         IsRising (map (λ i. i.prefix) (prefixes_of mode p n)) }
 {}
 
-/// They are the schedules that are cut short at this length. Where all are complete they are all
-/// complete schedules; pruned, all that sleep sets leave.
+/// The prefixes of a length are the schedules cut short at that length. Where all prefixes are
+/// complete they are all complete schedules; with sleep sets, all that these leave.
 pub fn prefixes_are_schedules_cut_short()
     ensures cut { (p : Program) (bound n : ℕ) → IsWellFormed p →
         map (λ i. i.prefix) (prefixes_of (Bounded bound) p n) ≡ schedules_cut_at n p (start p) }
@@ -77,7 +78,7 @@ pub fn prefixes_are_schedules_cut_short()
         map (λ i. i.prefix) (prefixes_of mode p n) ≡ everything mode (root_of p) }
 {}
 
-/// The bound makes no difference: the prefixes are the same, and a cover stays one.
+/// The prefixes of a length are the same at each bound, and a cover at one bound is one at each.
 pub fn one_bound_is_as_good_as_another()
     ensures prefixes { (p : Program) (a b n : ℕ) →
         prefixes_of (Bounded a) p n ≡ prefixes_of (Bounded b) p n }

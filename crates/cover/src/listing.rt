@@ -1,4 +1,5 @@
-//! The prefixes of the least length at which there are as many as asked for.
+//! A list of prefixes that cover a program: those of the least length at which there are as many as
+//! asked for.
 
 ghost use Rattle.std.specs.Prelude.{◌≡◌, IfOk};
 ghost use Rattle.std.specs.Arc.{arc_value};
@@ -7,7 +8,7 @@ ghost use Rattle.items.specs.Items.{root_of};
 ghost use Rattle.cover.specs.Covers.{IsCover};
 ghost use Rattle.cover.specs.Prefixes.{IsListOf, prefix_line};
 
-use crate::longer::next_layer;
+use crate::children::next_layer;
 use guest_code::laws::programs_are_well_formed;
 use guest_code::program::Program;
 use items::item::Item;
@@ -17,12 +18,13 @@ use schedules::limits::STEPS;
 use std::alloc::{AllocError, Global};
 use std::sync::Arc;
 
-/// The prefixes, rising, of the least length at which there are at least so many; a complete
-/// schedule that is shorter stands for itself. Where there are never so many they are all complete
-/// schedules. With a bound there are those past it, too: the bound makes no difference. Pruned
-/// there are those that sleep sets enter, with the threads that sleep after them.
+/// The items of a program's prefixes of one length, the least at which there are at least
+/// `at_least` of them, in the rising order of schedules; a complete schedule that is shorter is
+/// there as it is. Where there are never so many prefixes, they are all complete schedules.
+/// Prefixes with more preemptions than a mode's bound are there, too. With sleep sets (`Reduced`)
+/// only those are there that the search enters, each with the threads that sleep after it.
 ///
-/// Beside the list it holds that of the prefixes one step shorter, and one state.
+/// The memory used is that of the list, of the list one step shorter, and of one state.
 ///
 /// # Errors
 ///
@@ -52,7 +54,7 @@ pub fn prefixes(
     Ok(items)
 }
 
-/// The prefixes of these items, a schedule text a line.
+/// The text of the prefixes of these items: a line for each, with its printed spelling.
 ///
 /// # Errors
 ///

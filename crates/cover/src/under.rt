@@ -1,4 +1,4 @@
-//! The item of the schedules that begin with a prefix, in either mode.
+//! The item of the schedules that begin with a prefix, with sleep sets or without.
 
 ghost use Rattle.std.specs.Prelude.{◌≡◌, true, IfOk, IfErr, MatchOption};
 ghost use Rattle.std.specs.Arc.{arc_value};
@@ -20,9 +20,9 @@ use semantics::state::State;
 use std::alloc::{AllocError, Global};
 use std::sync::Arc;
 
-/// The item of a program's schedules that begin with a prefix: pruned, with the threads that sleep
-/// after the prefix. `None` where the prefix takes a step of a thread that sleeps: none of the
-/// schedules that sleep sets leave begins with it.
+/// The item of a program's schedules that begin with a prefix; with sleep sets (`Reduced`) it has
+/// the threads that sleep after the prefix. `None` where, with sleep sets, the prefix takes a step
+/// of a thread that sleeps: none of the schedules that they leave begins with it.
 ///
 /// # Errors
 ///
@@ -42,12 +42,13 @@ pub fn item_under(
     let item = Item::at(alloc, program, prefix)?;
     match mode {
         Mode::Bounded(_) => Ok(Some(item)),
-        Mode::Reduced => Ok(pruned(alloc, item)?),
+        Mode::Reduced => Ok(with_sleepers(alloc, item)?),
     }
 }
 
-// The item with the threads that sleep after its prefix.
-fn pruned(alloc: Global, item: Item) -> Result<Option<Item>, AllocError>
+// The item with its mask set to the threads that sleep after its prefix; `None` where a step of the
+// prefix is one of a thread that sleeps then.
+fn with_sleepers(alloc: Global, item: Item) -> Result<Option<Item>, AllocError>
     requires { item.mask ≡ no_threads }
     ensures { IfOk result (λ found. MatchOption found
         (HasNoneUnder Reduced item.program item.prefix)
@@ -57,12 +58,13 @@ fn pruned(alloc: Global, item: Item) -> Result<Option<Item>, AllocError>
         return Ok(None);
     };
     match item.prefix().split_last() {
-        Some((last, steps)) => Ok(Some(item.further(alloc, steps, *last, asleep)?)),
+        Some((last, steps)) => Ok(Some(item.with_prefix(alloc, steps, *last, asleep)?)),
         None => Ok(Some(item)),
     }
 }
 
-// Who sleeps after a prefix that runs, if no step of it is one of a thread that sleeps then.
+// The threads that sleep after a prefix that runs; `None` where a step of the prefix is one of a
+// thread that sleeps then.
 fn asleep_after(alloc: Global, program: &Program, prefix: &[u8]) -> Result<Option<Mask>, AllocError>
     requires { runs program.now (start program.now) prefix.now ≡ true }
     ensures { IfOk result (λ found. MatchOption found

@@ -9,14 +9,14 @@ ghost use Rattle.answering.specs.declared.request.CheckForm.TheVariants.{Lines};
 use crate::diagnostics::diagnostics_text;
 use crate::files::{GuestFile, guest_files};
 use advice::{Checked, Depth, advice_text, check};
-use answering::{CheckForm, CheckRequest, CommandFault, Fault, Printed, read_file, serve_printed};
+use answering::{CheckForm, CheckRequest, CommandFault, Fault, Printed, read_file, write_printed};
 use std::alloc::{Alloc, AllocError, Global};
 use std::fs;
 use std::fs::Files;
 use std::io::{Input, Write};
 
-/// Checks each file, and tells what is wrong or odd: lines for people on `err`, other forms on `out`.
-/// Answers the greatest of the files' statuses.
+/// Checks each file, and tells what is wrong or odd: lines for people on `err`, other forms on
+/// `out`. Answers the greatest of the files' statuses.
 pub fn serve_check<H, W: Write, E: Write>(
     rt: &H,
     request: &CheckRequest,
@@ -39,7 +39,7 @@ where
         for file in &files {
             let status = match (request.form, check_file(rt, file, request)) {
                 (CheckForm::Lines, Ok(printed)) => write_lines(err, file, several, &printed),
-                (_, printed) => serve_printed(printed, out, err),
+                (_, printed) => write_printed(printed, out, err),
             };
             worst = worst.max(status);
         }
@@ -63,8 +63,8 @@ where
     Ok(check_text(rt.alloc(), text.as_slice(), name, request)?)
 }
 
-// Writes lines for people to `err`, and answers the status. Where several files are checked, the name
-// of this file stands above its lines.
+// Writes what was printed of a file, lines for people, to `err`, and answers its status. Where
+// several files are checked, the name of the file stands above its lines.
 fn write_lines<E: Write>(err: &mut E, file: &GuestFile, several: bool, printed: &Printed) -> u8 {
     let lines = printed.output.as_slice();
     // a failing stream changes no status
@@ -75,7 +75,7 @@ fn write_lines<E: Write>(err: &mut E, file: &GuestFile, several: bool, printed: 
     printed.status
 }
 
-/// What a check prints of the text of a file, by this name, and the status.
+/// What a check prints of the text of a file of the name `file`, and the status.
 ///
 /// # Errors
 ///
@@ -100,7 +100,7 @@ pub fn check_text(
     })
 }
 
-// What is printed of a text of this file that was checked, in this form.
+// What is printed, in this form, of a text that was checked; `file` is the name of its file.
 fn check_output(
     alloc: Global,
     text: &[u8],
@@ -129,8 +129,9 @@ pub fn checked_status(checked: &Checked, strict: bool) -> u8
     }
 }
 
-/// Whether this name is that of a plain file whose text is refused. The file may have been read before:
-/// standard input and pipes, which can't be read twice, aren't read.
+/// Whether `file` is the name of a plain file whose text is refused; false where it can't be read.
+/// The file may have been read before: standard input and pipes, which can't be read twice, aren't
+/// read.
 pub fn is_refused<H>(rt: &H, file: &str) -> bool
 where
     H: Files + Input + Alloc<A = Global>,

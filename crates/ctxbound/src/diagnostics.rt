@@ -7,9 +7,9 @@ use std::fmt::Write;
 use text_lines::Marks;
 
 /// A line for each refusal and each warning of a text that was read from this file: a JSON object,
-/// or `FILE:LINE:COLUMN: warning W5 NeverLoaded: MESSAGE`, where a refusal is an `error` and what
-/// has no place is told of the first byte. Where a mark of a preprocessor comes before, file and line
-/// are those that the mark says.
+/// or `FILE:LINE:COLUMN: warning W5 NeverLoaded: MESSAGE`, where a refusal is an `error`, and what
+/// has no place is at line 1, column 1. Where a preprocessor's mark comes before the place, file
+/// and line are those that the mark says.
 ///
 /// # Errors
 ///
@@ -38,7 +38,8 @@ pub fn diagnostics_text(
     Ok(lines.into_bytes())
 }
 
-// The line `FILE:LINE:COLUMN: warning W5 NeverLoaded: MESSAGE` of a diagnostic.
+// The line `FILE:LINE:COLUMN: warning W5 NeverLoaded: MESSAGE` of a diagnostic; a diagnostic that
+// has no place is at line 1, column 1.
 fn short_line(
     alloc: Global,
     marks: &Marks,
@@ -56,7 +57,8 @@ fn short_line(
     format!(in alloc; "{place}:{column}: {severity} {number} {name}: {message}")
 }
 
-// The members of the JSON object of a diagnostic.
+// The members of the JSON object of a diagnostic: those of its message, and `code`, `notes` and
+// `severity`.
 fn diagnostic_members(
     alloc: Global,
     marks: &Marks,
@@ -80,9 +82,10 @@ fn diagnostic_members(
     Ok(members)
 }
 
-// The members of a message at a span: what is said, where the span begins, and as its `end` the column
-// after its last byte; null without a span. The member `file` is what a mark before the span says, else
-// `file`, if any.
+// The members of a message at a span: the text `said`, the line and the column where the span
+// begins, and as `end` the place after its last byte; these places are null without a span. The
+// member `file` is what a preprocessor's mark before the span says, else `file`; without either it
+// is left out.
 fn message_members(
     alloc: Global,
     marks: &Marks,
@@ -114,7 +117,7 @@ fn message_members(
     Ok(members)
 }
 
-// Bytes as text, with a question mark for each that isn't printable ASCII.
+// Bytes as text, with a question mark for each byte that isn't printable ASCII.
 fn ascii_text(alloc: Global, bytes: &[u8]) -> Result<String, AllocError> {
     let shown = bytes.iter().map(|byte| match byte {
         b' '..=b'~' => *byte as char,

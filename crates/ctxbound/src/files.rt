@@ -1,4 +1,4 @@
-//! The files that the command words name.
+//! The files of guest programs that the command words name.
 
 use answering::{CommandFault, read_file};
 use std::alloc::{Alloc, AllocError, Global};
@@ -17,6 +17,7 @@ const NO_GUESTS: &str = "no file in it ends in .guest";
 pub struct GuestFile {
     /// The name.
     pub name: String,
+    // Why the name stands for no file, if it stands for none.
     error: Option<io::Error>,
 }
 
@@ -25,7 +26,7 @@ impl GuestFile {
     ///
     /// # Errors
     ///
-    /// Why the name stands for no file, or what the device answers.
+    /// Why the name stands for no file, or why the file can't be read.
     pub fn read<H>(&self, rt: &H) -> io::Result<Vec<u8>>
     where
         H: Files + Input + Alloc<A = Global>,
@@ -41,7 +42,7 @@ impl GuestFile {
 ///
 /// # Errors
 ///
-/// What the device answers, with the name `file`.
+/// Why the file can't be read, with its name.
 pub fn guest_text<'a, H>(rt: &H, file: &'a str) -> Result<Vec<u8>, CommandFault<'a>>
 where
     H: Files + Input + Alloc<A = Global>,
@@ -52,8 +53,10 @@ where
     }
 }
 
-/// The files that a name stands for: the file of that name, or all guest programs in the folder of that
-/// name and in the folders in it, sorted by name. In there links to folders aren't followed.
+/// The files that a name stands for: the file of that name, or all guest programs in the folder of
+/// that name and in the folders in it, sorted by name. Links to folders in it aren't followed. A
+/// folder that can't be read, or has no guest program, is answered as one file, by the folder's
+/// name and with the error.
 ///
 /// # Errors
 ///
@@ -75,7 +78,9 @@ where
     }
 }
 
-// The sorted names of the files that a name stands for, or why it stands for none.
+// The sorted names of the files that a name stands for: the name itself, or, of a folder, those of
+// all guest programs in it and in the folders in it. An error where the folder has none or can't be
+// read.
 fn guest_names<H>(rt: &H, name: &str) -> io::Result<Vec<String>>
 where
     H: Files + Alloc<A = Global> + Clone + Drop,
@@ -101,7 +106,8 @@ where
     Ok(guests)
 }
 
-// Pushes the names of the guest programs in a folder to `guests`, those of its folders to `folders`.
+// Pushes the names of the guest programs in a folder to `guests`, and those of the folders in it to
+// `folders`.
 fn push_entries<H>(
     rt: &H,
     folder: &str,

@@ -1,4 +1,4 @@
-//! The forms of an explanation that aren't text in columns: JSON and an HTML page.
+//! The formats of an explanation beside text in columns: JSON and an HTML page.
 
 use explain::Source;
 use explain_json::{explanation_json, no_schedule_json};
@@ -8,18 +8,20 @@ use explained::{Explained, Output, Render, is_fewest, no_schedule_text};
 use runner::report_value;
 use std::alloc::Global;
 
-/// The form that tells an explanation as JSON.
+/// The format of explanations as JSON.
 #[derive(Clone, Copy, Debug)]
 pub struct Json;
 
-/// The form that tells an explanation as an HTML page.
+/// The format of explanations as an HTML page.
 #[derive(Clone, Copy, Debug)]
 pub struct Html;
 
-/// The columns of a line of the text on a page, which wraps the lines that are too wide for its window.
+/// The columns of a line of the text on a page, which wraps lines that are too wide for its window.
 const PAGE_WIDTH: usize = 100;
 
 impl Render for Json {
+    // The JSON of the explanation, with the report of the search, where a search found the
+    // schedule; or the JSON of a search that found no bad schedule.
     fn render(&self, alloc: Global, answer: &Explained, source: &Source<'_>, file: &str) -> Output {
         match answer {
             Explained::Asked(explanation) => explanation_json(alloc, explanation, source, None),
@@ -35,6 +37,8 @@ impl Render for Json {
 }
 
 impl Render for Html {
+    // The page of the explanation, with the report of the search, where a search found the
+    // schedule; or a page with the sentence that a search found no bad schedule.
     fn render(&self, alloc: Global, answer: &Explained, source: &Source<'_>, file: &str) -> Output {
         let (explanation, is_fewest, ends) = match answer {
             Explained::Asked(explanation) => (explanation, false, None),

@@ -45,7 +45,8 @@ where
     }
 }
 
-// Pushes the parts that a file has, which have to be parts of this guest's search, to `parts`.
+// Reads the parts in a file and pushes them to `parts`. An error where the file can't be read, a
+// line is that of no part, or a part is of another guest than this one; then none is pushed.
 fn push_parts<'a, H>(
     rt: &H,
     parts: &mut Vec<Part>,
@@ -72,7 +73,7 @@ where
     Err(CommandFault::Line(line.into_bytes(), REFUSED))
 }
 
-// The line that tells why parts aren't joined.
+// The line for the user that says why parts don't join to a report.
 fn error_line(alloc: Global, error: &JoinError) -> Result<Vec<u8>, AllocError>
     ensures { IfOk result (λ line. line.items ≡ error_line error.now) }
 {
@@ -86,11 +87,12 @@ fn error_line(alloc: Global, error: &JoinError) -> Result<Vec<u8>, AllocError>
     Ok(line)
 }
 
-// The status where parts aren't joined: 3 where more parts would help, 4 for memory, else 2.
+// The status where parts don't join to a report: 3 where more parts would help, 4 for memory, else
+// 2.
 fn error_status(error: &JoinError) -> u8
     ensures { result ≡ error_status error.now }
 {
-    if error.needs_work() {
+    if error.needs_more_parts() {
         return 3;
     }
     match error {
@@ -99,7 +101,8 @@ fn error_status(error: &JoinError) -> u8
     }
 }
 
-// What is printed of the report that parts of a search join to, and the status of its verdict.
+// What is printed of the report that parts of a search join to, and the status of its verdict; or
+// why they don't join to one.
 fn joined_report(
     alloc: Global,
     program: &Arc<Program>,

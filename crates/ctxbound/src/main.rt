@@ -2,8 +2,8 @@
 //!
 //! The crate `words` reads the words, `program` does what they ask for, and `main` joins both to
 //! the system. What is answered to a replay or a search is in the crate `answering`, and what an
-//! explanation answers in `explained`; `forms` has its other forms. The other commands are in
-//! `checks`, `suites`, `verified`, `prefixes` and `joins`; `under` has searches under a prefix.
+//! explanation answers in `explained`; `forms` has its formats beside text. The other commands are
+//! in `checks`, `suites`, `verified`, `prefixes` and `joins`; `under` has searches under a prefix.
 #![tactic(auto)]
 
 mod checks;
@@ -22,6 +22,7 @@ use std::io::IsTerminal;
 use std::process::ExitCode;
 use words::command_words;
 
+// Reads the command words, does what they ask for, and ends the program with the status.
 fn main(rt: HostRuntime) -> ExitCode {
     let mut out = rt.stdout();
     let mut err = rt.stderr();

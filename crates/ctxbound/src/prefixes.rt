@@ -11,7 +11,9 @@ use runner::ExploreError;
 use std::alloc::Global;
 use verify::program_of;
 
-/// The lines of prefixes of the program that a text spells: `at_least` so many, where it has so many.
+/// A line for each prefix of the least length at which the schedules of the program that a text
+/// spells have `at_least` prefixes; where they never have so many, for each complete schedule. If
+/// `is_pruned`, for those alone that a search with sleep sets enters.
 ///
 /// # Errors
 ///
@@ -30,7 +32,8 @@ pub fn prefixes_text(
     Ok(prefix_lines(alloc, items.as_slice())?)
 }
 
-/// The mode whose prefixes are listed, with sleep sets or without. The bound makes no difference.
+/// The mode in which prefixes are listed: with sleep sets if `is_pruned`, else with a bound, whose
+/// number makes no difference to the prefixes.
 pub fn listing_mode(is_pruned: bool) -> Mode
     ensures { result ≡ listing_mode is_pruned }
 {

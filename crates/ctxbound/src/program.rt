@@ -1,4 +1,5 @@
-//! The whole program, but for where the command words come from and where the answer goes.
+//! The whole program, from command words that were given to the bytes that are written and the
+//! status.
 
 use crate::checks::{is_refused, serve_check};
 use crate::files::guest_text;
@@ -10,7 +11,7 @@ use crate::under::search_under_prefix;
 use crate::verified::verify_guest;
 use answering::{
     CommandFault, ExplainForm, ExplainRequest, JoinRequest, PrefixesRequest, Printed, REFUSED,
-    Request, UnderRequest, VerifyRequest, serve_file, serve_printed,
+    Request, UnderRequest, VerifyRequest, serve_file, write_printed,
 };
 use explained::{Text, serve_explain};
 use std::alloc::{Alloc, Global};
@@ -18,11 +19,11 @@ use std::fs::Files;
 use std::io::{Eprint, Input, Write};
 use std::sync::Wait;
 use std::thread::Threads;
-use words::request;
+use words::parse_request;
 
-/// Does what the command words ask for: the answer goes to `out`, the lines of faults to `err`. Where
-/// `is_seen`, a person reads `err`, and is told which command says more. Answers the status that the
-/// program ends with.
+/// Does what the command words ask for: the answer goes to `out`, the lines of faults to `err`. If
+/// `is_seen`, a person reads `err`: where a guest's text is refused, it is also told which command
+/// says more. Answers the status that the program ends with.
 pub fn serve_words<H, W: Write, E: Write>(
     rt: &H,
     words: &[String],
@@ -33,7 +34,7 @@ pub fn serve_words<H, W: Write, E: Write>(
 where
     H: Threads + Wait + Sync + Eprint + Files + Input + Alloc<A = Global> + Clone + Drop,
 {
-    let request = match request(rt.alloc(), words) {
+    let request = match parse_request(rt.alloc(), words) {
         Ok(request) => request,
         Err(fault) => return fault.report(err),
     };
@@ -48,7 +49,8 @@ where
     status
 }
 
-// Does what a request asks for, and answers the status.
+// Does what a request asks for, with the answer to `out` and the lines of faults to `err`. Answers
+// the status that the program ends with.
 fn serve_request<H, W: Write, E: Write>(rt: &H, request: &Request, out: &mut W, err: &mut E) -> u8
 where
     H: Threads + Wait + Sync + Eprint + Files + Input + Alloc<A = Global> + Clone + Drop,
@@ -60,15 +62,16 @@ where
         Request::Suite(request) => serve_suite(rt, request, out, err),
         Request::Verify(request) => {
             let printed = verify_file(rt, request, out);
-            serve_printed(printed, out, err)
+            write_printed(printed, out, err)
         }
-        Request::Prefixes(request) => serve_printed(list_prefixes(rt, request), out, err),
-        Request::Under(request) => serve_printed(search_under(rt, request), out, err),
-        Request::Join(request) => serve_printed(join_parts(rt, request), out, err),
+        Request::Prefixes(request) => write_printed(list_prefixes(rt, request), out, err),
+        Request::Under(request) => write_printed(search_under(rt, request), out, err),
+        Request::Join(request) => write_printed(join_parts(rt, request), out, err),
     }
 }
 
-// The answer to print to whether the guest program in a file is right. Lines on searches go to `out`.
+// Whether the guest program in a file is right, as the answer to print. A line on each search is
+// written to `out` as the search ends.
 fn verify_file<'a, H, W: Write>(
     rt: &H,
     request: &'a VerifyRequest,
@@ -81,7 +84,7 @@ where
     Ok(verify_guest(rt, text.as_slice(), request, out)?)
 }
 
-// What is printed of the prefixes of the schedules of the guest program in a file.
+// What is printed where prefixes of the schedules of the guest program in a file are listed.
 fn list_prefixes<'a, H>(rt: &H, request: &'a PrefixesRequest) -> Result<Printed, CommandFault<'a>>
 where
     H: Files + Input + Alloc<A = Global>,
@@ -111,7 +114,8 @@ where
     join_files(rt, text.as_slice(), request)
 }
 
-// Explains a schedule of the guest program in a file, in this form, and answers the status.
+// Explains a schedule of the guest program in a file in this form: writes the explanation to `out`,
+// or the line of a fault to `err`, and answers the status.
 fn explain_in_form<H, W: Write, E: Write>(
     rt: &H,
     request: &ExplainRequest,

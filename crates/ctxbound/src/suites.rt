@@ -12,7 +12,7 @@ use std::thread::Threads;
 use suite::{Entry, Outcome, Table, Tally, json_line};
 use text_lines::Marks;
 
-/// Searches each file of a suite, and prints what became of the file as soon as that is known. Answers
+/// Searches each file of a suite, and prints what became of it as soon as that is known. Answers
 /// the greatest of the files' statuses, or a fault's status where nothing more can be written.
 pub fn serve_suite<H, W: Write, E: Write>(
     rt: &H,
@@ -29,7 +29,9 @@ where
     }
 }
 
-// Prints what becomes of the files of a suite, one after the other, and at last the tally of statuses.
+// Searches the files of a suite one after the other, prints what becomes of each, and last, in a
+// table, the tally of their statuses, which it answers. An error where `out` can't be written, or
+// memory runs out.
 fn print_suite<H, W: Write, E: Write>(
     rt: &H,
     request: &SuiteRequest,
@@ -69,7 +71,8 @@ where
     Ok(tally)
 }
 
-// What becomes of a file of a suite, and the marks that say where its lines come from.
+// Reads and searches a file of a suite: its entry, and the preprocessor's marks in its text, which
+// say where its lines come from. An error only where memory runs out.
 fn search_file<H, E: Write>(
     rt: &H,
     guest: &GuestFile,

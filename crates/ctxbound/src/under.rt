@@ -1,4 +1,4 @@
-//! The commands `explore` and `unbounded` with `--under`.
+//! The commands `explore` and `unbounded` with `--under`: searches under a prefix.
 
 ghost use Rattle.std.specs.Prelude.{◌≡◌, IfOk, IfErr};
 ghost use Rattle.std.specs.Arc.{arc_value};
@@ -24,8 +24,8 @@ use summary::Summary;
 use verify::program_of;
 
 /// What is printed of a search under a prefix of the schedules of the program that a text spells: a
-/// line for each bound. Nothing is printed before the search has ended, so that no part is
-/// printed whose end is missing.
+/// part, which is a line, for each bound. Nothing is printed before the search has ended, so that a
+/// search that is killed has printed none of its parts.
 ///
 /// # Errors
 ///
@@ -52,7 +52,9 @@ where
     Ok(Printed { output, status })
 }
 
-// The levels of the search under a prefix, or why the prefix doesn't run.
+// Searches under a prefix: what was found, a level for each bound; or why the prefix doesn't run.
+// Where sleep sets leave no schedule under the prefix, nothing is searched, and there is one empty
+// level.
 fn levels_under<H>(
     rt: &H,
     program: Arc<Program>,
@@ -74,14 +76,14 @@ where
     Ok(explore_under(rt, alloc, item, search.options, search.workers, &gate)?)
 }
 
-// The mode in which the prefixes for this search are listed.
+// The mode in which the prefixes for a search are listed: with sleep sets where it has no bound.
 fn prefix_mode(search: Search) -> Mode
     ensures { result ≡ prefix_mode search }
 {
     listing_mode(matches!(search, Search::Unbounded))
 }
 
-// The level of a prefix that no schedule is under.
+// The level of a search without a bound, under a prefix under which sleep sets leave no schedule.
 fn empty_level(alloc: Global) -> Level
     ensures { result ≡ empty_level }
 {
@@ -92,7 +94,7 @@ fn empty_level(alloc: Global) -> Level
     }
 }
 
-// The status after a search that has these levels: that of the last one, 0 without one.
+// The status after a search under a prefix: that of the last of its levels, 0 where it has none.
 fn last_status(levels: &[Level]) -> u8
     ensures { result ≡ last_status levels.now }
 {
@@ -102,7 +104,8 @@ fn last_status(levels: &[Level]) -> u8
     }
 }
 
-// The status after a level: 3 where it was cut short, 1 where it has a bad schedule, else 0.
+// The status of a level: 3 where the search was cut short at it, 1 where it has a bad schedule,
+// else 0.
 fn level_status(level: &Level) -> u8
     ensures { result ≡ level_status level.now }
 {
@@ -113,7 +116,7 @@ fn level_status(level: &Level) -> u8
     }
 }
 
-// The lines of the levels of the search under a prefix, a part of the guest's search each.
+// The parts of a search of this guest under this prefix, a line each: one for each of the levels.
 fn level_lines(
     alloc: Global,
     guest: GuestDigest,

@@ -17,11 +17,11 @@ use std::thread::Threads;
 use text_lines::Marks;
 use verify::{BadSchedule, Correctness, Preemptions, verify_text};
 
-/// What is said where the searches leave open whether a program is right.
+/// What is said at the end where the searches leave open whether a program is right.
 const HIGHER_LIMIT: &str = "A higher --limit says more.";
 
-/// The answer to print to whether the guest program of this text is right. A line on each search is
-/// written to `out` as the search ends.
+/// Whether the guest program of this text is right, as the answer to print. A line on each search
+/// is written to `out` as the search ends.
 ///
 /// # Errors
 ///
@@ -50,7 +50,7 @@ where
 }
 
 // The status of an answer: 0 where the program is right, 1 where a schedule is bad, 3 where the
-// searches left that open.
+// searches left open whether one is.
 fn verified_status(answer: &Correctness) -> u8
     ensures { result ≡ verified_status answer.now }
 {
@@ -61,7 +61,9 @@ fn verified_status(answer: &Correctness) -> u8
     }
 }
 
-// The text that a program is right, and what weakens that answer.
+// The text of the answer that a program is right, with its caveats: a line for each warning of
+// `CAVEATS` that a check of its schedules, up to the limit, finds, and for each that the check may
+// have missed since it was cut short there.
 fn right_text(alloc: Global, request: &VerifyRequest, text: &[u8]) -> Result<String, AllocError> {
     let file = request.file.as_str();
     let mut told = format!(in alloc; "RIGHT: no schedule of {file} fails or gets stuck.\n")?;
@@ -78,22 +80,23 @@ fn right_text(alloc: Global, request: &VerifyRequest, text: &[u8]) -> Result<Str
                 Some(_) => format!(in alloc; "{}:{column}", marks.file_line("", line).with_name())?,
                 None => format!(in alloc; "{line}:{column}")?,
             };
-            put_weakness(&mut told, alloc, diagnostic, at.as_str(), &pieces)?;
+            put_caveats(&mut told, alloc, diagnostic, at.as_str(), &pieces)?;
         }
     }
     Ok(told)
 }
 
-// What weakens a right answer where some schedule shows it: the number of its warning, the word
-// without which a text has none, and what was looked for.
-const WEAKNESSES: [(&str, &[u8], &str); 2] = [
+// The warnings that are caveats to the answer that a program is right: the number of each, a word
+// that a text with this warning has, and what the schedules were searched for.
+const CAVEATS: [(&str, &[u8], &str); 2] = [
     ("W12", b"leave", "loops that run out of turns"),
     ("W13", b"signal", "signals for which several threads wait"),
 ];
 
-// Puts what a diagnostic on the place `at` in the text of these pieces says against a right answer:
-// what weakens that answer, or that not all schedules were searched for what could.
-fn put_weakness(
+// Adds to `told`, the answer that a program is right, the caveats that a diagnostic at the place
+// `at` makes: its message, where it is a warning of `CAVEATS`; where it says that the check was cut
+// short, a line for each of those warnings that the text, which has these `pieces`, may have.
+fn put_caveats(
     told: &mut String,
     alloc: Global,
     diagnostic: &Diagnostic,
@@ -101,8 +104,8 @@ fn put_weakness(
     pieces: &[Piece<'_>],
 ) -> Result<(), AllocError> {
     let (number, name) = diagnostic.code();
-    for (weakness, word, sought) in WEAKNESSES {
-        if number == weakness {
+    for (caveat, word, sought) in CAVEATS {
+        if number == caveat {
             let message = String::from_utf8_lossy(alloc, diagnostic.message.as_slice())?;
             writeln!(told, "But {number} {name} at {at}: {message}")?;
         } else if number == "W21" && pieces.iter().any(|piece| piece.text == word) {
@@ -112,7 +115,8 @@ fn put_weakness(
     Ok(())
 }
 
-// The text that a schedule is bad, one with fewest preemptions where `is_fewest`, and how to see why.
+// The text of the answer that the schedule `bad` of the program in this file is bad, with the
+// command that explains it. If `is_fewest`, none with fewer preemptions is.
 fn bad_text(
     alloc: Global,
     file: &str,
@@ -129,7 +133,7 @@ fn bad_text(
         (_, true) => "; none with fewer is bad",
         (_, false) => "; whether one with fewer is bad isn't known",
     };
-    let word = shell_word(alloc, file)?;
+    let word = shell_quoted(alloc, file)?;
     let steps = schedule_text(alloc, bad.steps.as_slice())?;
     let steps = String::from_utf8_lossy(alloc, steps.as_slice())?;
     format!(in alloc;
@@ -137,7 +141,8 @@ fn bad_text(
     )
 }
 
-// The text that no more is known than that schedules with fewer preemptions than `below` aren't bad.
+// The text of the answer that it is undecided whether a program is right: it is only known that no
+// schedule with fewer preemptions than `below` is bad.
 fn undecided_text(alloc: Global, file: &str, below: u32) -> Result<String, AllocError> {
     let known = below.saturating_sub(1);
     let at_most = if known == 0 { "" } else { "at most " };
@@ -150,9 +155,9 @@ fn undecided_text(alloc: Global, file: &str, below: u32) -> Result<String, Alloc
     }
 }
 
-// A word as a shell reads it: in quotes, where it has more than letters, digits and what names of
-// files mostly have.
-fn shell_word(alloc: Global, word: &str) -> Result<String, AllocError> {
+// A word quoted for a shell: in single quotes, unless it is of letters, digits and signs that a
+// shell takes as they are.
+fn shell_quoted(alloc: Global, word: &str) -> Result<String, AllocError> {
     let is_plain = |b: &u8| b.is_ascii_alphanumeric() || b"_./+-@%:,".contains(b);
     if !word.is_empty() && word.as_bytes().iter().all(is_plain) {
         return word.to_string(alloc);

@@ -10,12 +10,12 @@ use Rattle.semantics.specs.declared.local.Turn.TheVariants.{Runs, Fails}
 use Rattle.semantics.specs.Machine.{value_of_expression, is_zero}
 use Rattle.semantics.specs.Turns.{turn_of, locals_after}
 use Rattle.semantics.proofs.LocalRuns.{after_first}
-use Rattle.explain.specs.declared.settings.Setting.{Setting}
+use Rattle.explain.specs.declared.assignments.Assignment.{Assignment}
 use Rattle.explain.specs.Settings.{settings_in}
 use Rattle.explain.specs.inner.Runs.{set_at}
 
 -- what is set after the instruction of which this came
-abbrev pub settings_on : List Instruction → Turn → List ℤ → List Setting
+abbrev pub settings_on : List Instruction → Turn → List ℤ → List Assignment
 settings_on code (Runs next) locals = settings_in (drop next code) next 0 locals
 settings_on code _ locals = []
 

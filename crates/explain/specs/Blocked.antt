@@ -6,9 +6,9 @@ use Rattle.semantics.specs.declared.state.Action.TheVariants.{OnMutex, OnSemapho
 use Rattle.semantics.specs.declared.state.MutexAction.TheVariants.{Lock as Locks, Retake as Retakes}
 use Rattle.semantics.specs.declared.state.SemaphoreAction.TheVariants.{Acquire as Acquires}
 use Rattle.semantics.specs.Machine.{Snapshot, thread_at, next_of, owner_of, count_of, is_enabled}
-use Rattle.explain.specs.declared.standing.Reason.{Reason}
-use Rattle.explain.specs.declared.standing.Reason.TheVariants.{Lock, Retake, Acquire, Signal}
-use Rattle.explain.specs.declared.standing.Standing.{Standing}
+use Rattle.explain.specs.declared.thread_state.Reason.{Reason}
+use Rattle.explain.specs.declared.thread_state.Reason.TheVariants.{Lock, Retake, Acquire, Signal}
+use Rattle.explain.specs.declared.thread_state.ThreadState.{ThreadState}
 use Rattle.explain.specs.declared.object.Object.{Object}
 use Rattle.explain.specs.declared.object.Object.TheVariants.{Mutex, Condition, Semaphore}
 
@@ -41,7 +41,7 @@ IsUnblocked p s t = (is_enabled p s t ≡ true)
     ⊎ ((next_of p s t ≡ None) × ((c : ℕ) → (thread_at s t).status ≢ Waiting c))
 
 -- what is told of thread t in a state
-pub record Stands (p : Program) (s : Snapshot) (t : ℕ) (told : Standing) : Type 0 where
+pub record Stands (p : Program) (s : Snapshot) (t : ℕ) (told : ThreadState) : Type 0 where
   pub status : told.status ≡ (thread_at s t).status
   pub instruction : told.instruction ≡ (thread_at s t).pc
   pub locals : told.locals ≡ (thread_at s t).locals
@@ -50,6 +50,6 @@ pub record Stands (p : Program) (s : Snapshot) (t : ℕ) (told : Standing) : Typ
   pub enabled : told.enabled ≡ is_enabled p s t
 
 -- what a thread of which this is told waits for; nothing where nothing is told
-abbrev pub reason_of : Option Standing → Option Reason
+abbrev pub reason_of : Option ThreadState → Option Reason
 reason_of None = None
 reason_of (Some told) = told.reason

@@ -9,7 +9,7 @@ use Rattle.schedules.specs.Execution.{ExecutionView}
 use Rattle.replay.specs.Run.{lines_from, number_at, state_before, IsFirstBad}
 use Rattle.explain.specs.declared.explanation.Explanation.{Explanation}
 use Rattle.explain.specs.declared.explanation.Start.{Start}
-use Rattle.explain.specs.declared.standing.Standing.{Standing}
+use Rattle.explain.specs.declared.thread_state.ThreadState.{ThreadState}
 use Rattle.explain.specs.declared.explanation.Holder.{Holder}
 use Rattle.explain.specs.declared.step.Step.{Step}
 use Rattle.explain.specs.Steps.{Tells, lines_of}
@@ -39,7 +39,8 @@ StopsAt p w n (Some t) = IsFirstBad p w n × (number_at w n ≡ t)
 
 -- thread t before its first step: the locals that it set by itself, where it is, and why it stopped
 pub record Begins (p : Program) (t : ℕ) (told : Start) : Type 0 where
-  pub settings : told.settings.items ≡ settings_in (code_of p t) 0 0 (replicate LOCALS (pos 0))
+  pub assignments : told.assignments.items
+      ≡ settings_in (code_of p t) 0 0 (replicate LOCALS (pos 0))
   pub next : told.next ≡ (thread_at (start p) t).pc
   pub stop : told.stop ≡ stop_of (thread_at (start p) t).status
 
@@ -49,10 +50,10 @@ pub record TellsOpening (p : Program) (told : List Start) : Type 0 where
   pub each : (t : ℕ) (begins : Start) → slice_get told t ≡ Some begins → Begins p t begins
 
 -- each thread at the end
-pub record TellsThreads (p : Program) (s : Snapshot) (told : List Standing) : Type 0 where
+pub record TellsThreads (p : Program) (s : Snapshot) (told : List ThreadState) : Type 0 where
   pub all : length told ≡ length p.threads
-  pub each : (t : ℕ) (standing : Standing) → slice_get told t ≡ Some standing →
-      Stands p s t standing
+  pub each : (t : ℕ) (thread_state : ThreadState) → slice_get told t ≡ Some thread_state →
+      Stands p s t thread_state
 
 -- each mutex at the end
 pub record TellsHolders (p : Program) (w : List ℕ) (n : ℕ) (told : List (Option Holder)) :
@@ -65,8 +66,8 @@ pub record Explains (p : Program) (w : List ℕ) (told : Explanation) : Type 0 w
   pub schedule : told.schedule.items ≡ w
   pub steps : TellsSteps p w (length told.steps.items) told.steps.items
   pub stops : StopsAt p w (length told.steps.items) told.refused
-  pub opening : TellsOpening p told.opening.items
-  pub threads : TellsThreads p (state_before p w (length told.steps.items)) told.standings.items
+  pub opening : TellsOpening p told.starts.items
+  pub threads : TellsThreads p (state_before p w (length told.steps.items)) told.thread_states.items
   pub holders : TellsHolders p w (length told.steps.items) told.holders.items
   pub preemptions : told.preemptions ≡ preemptions p (take (length told.steps.items) w)
   pub kind : told.kind ≡ kind_of p (state_before p w (length told.steps.items))

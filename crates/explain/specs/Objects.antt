@@ -6,8 +6,8 @@ use Rattle.semantics.specs.declared.state.Action.TheVariants.{OnVariable, OnMute
 use Rattle.semantics.specs.Machine.{Snapshot, value_of, owner_of, queue_of, count_of}
 use Rattle.explain.specs.declared.object.Object.{Object}
 use Rattle.explain.specs.declared.object.Object.TheVariants.{Variable, Mutex, Condition, Semaphore}
-use Rattle.explain.specs.declared.object.Reading.{Reading}
-use Rattle.explain.specs.declared.object.Reading.TheVariants.{Value, Owner, Waiting, Count}
+use Rattle.explain.specs.declared.object.ObjectState.{ObjectState}
+use Rattle.explain.specs.declared.object.ObjectState.TheVariants.{Value, Owner, Waiting, Count}
 
 -- the object that an action is on: of a `wait` its condition
 abbrev pub object_of : Action → Object
@@ -18,7 +18,7 @@ object_of (OnCondition c d) = Condition c
 object_of (OnSemaphore k d) = Semaphore k
 
 -- what an object is in a state
-abbrev pub reading_of : Snapshot → Object → Reading
+abbrev pub reading_of : Snapshot → Object → ObjectState
 reading_of s (Variable x) = Value (value_of s x)
 reading_of s (Mutex m) = Owner (owner_of s m)
 reading_of s (Condition c) = Waiting (length (queue_of s c))

@@ -5,11 +5,11 @@ use Rattle.guest_code.specs.declared.program.Instruction.TheVariants.{Load, Stor
 use Rattle.semantics.specs.Expressions.{value_of_expression, is_zero, one_or_zero}
 use Rattle.replay.specs.declared.run.Act.{Act}
 use Rattle.replay.specs.declared.run.Act.TheVariants.{Load as Loads, Add as Adds, Cas as Swaps}
-use Rattle.explain.specs.declared.settings.Setting.{Setting}
+use Rattle.explain.specs.declared.assignments.Assignment.{Assignment}
 
 -- what a local run sets before these instructions, of which the first is number `at` and the first
 -- `skip` are jumped over, where the locals have these values
-abbrev pub settings_in : List Instruction → ℕ → ℕ → List ℤ → List Setting
+abbrev pub settings_in : List Instruction → ℕ → ℕ → List ℤ → List Assignment
 settings_in [] at skip locals = []
 settings_in (i ∷ is) at (suc skip) locals = settings_in is (at + 1) skip locals
 settings_in (Set r e ∷ is) at zero locals =
@@ -33,7 +33,7 @@ settings_in (Acquire k ∷ is) at zero locals = []
 settings_in (Release k ∷ is) at zero locals = []
 
 -- the local that a visible statement sets, the instruction of this number, where its step did this
-abbrev pub setting_by : ℕ → Instruction → Act → Option Setting
+abbrev pub setting_by : ℕ → Instruction → Act → Option Assignment
 setting_by at (Load r x) (Loads y v) =
     Some (record { instruction = at; local = r; value = v })
 setting_by at (Add r x a) (Adds y v w) =
@@ -43,18 +43,18 @@ setting_by at (Cas r x a b) (Swaps y v hit) =
 setting_by at _ _ = None
 
 -- that local as a list, if one is set
-abbrev pub listed : Option Setting → List Setting
+abbrev pub listed : Option Assignment → List Assignment
 listed None = []
-listed (Some setting) = setting ∷ []
+listed (Some assignment) = assignment ∷ []
 
 -- the locals after it
-abbrev pub locals_with : List ℤ → Option Setting → List ℤ
+abbrev pub locals_with : List ℤ → Option Assignment → List ℤ
 locals_with locals None = locals
-locals_with locals (Some setting) = slice_set locals setting.local setting.value
+locals_with locals (Some assignment) = slice_set locals assignment.local assignment.value
 
 -- what a thread sets in a step of the instruction `from` that did this, and, where it came further,
 -- by itself after it
-abbrev pub settings_by : List Instruction → ℕ → ℕ → List ℤ → Act → List Setting
+abbrev pub settings_by : List Instruction → ℕ → ℕ → List ℤ → Act → List Assignment
 settings_by code from to locals act =
     let first = setting_by from (slice_index_or code from (Skip 0)) act in
     listed first ++ (if nat_eq to from then [] else

@@ -41,7 +41,7 @@ pub record Tells (p : Program) (e : ExecutionView) (t : ℕ) (told : Step) : Typ
   pub object : told.object ≡ object_of action
   pub old : told.old ≡ reading_of e.state (object_of action)
   pub new : told.new ≡ reading_of (step p e.state t) (object_of action)
-  pub settings : told.settings.items ≡ settings_by (code_of p t) told.instruction told.next
+  pub assignments : told.assignments.items ≡ settings_by (code_of p t) told.instruction told.next
       (thread_at e.state t).locals told.line.act
   pub woken : told.woken.items ≡ woken_in e.state action
   pub held : told.held.items ≡ held_in e.state t

@@ -8,9 +8,9 @@ ghost use Rattle.explain.specs.Blocked.{reason_of};
 ghost use Rattle.explain.specs.Explains.{Explains, TellsOpening, TellsThreads};
 ghost use Rattle.explain.specs.inner.Carrying.{IsCarriedOut, AreHoldersAfter, holder_after};
 
-use crate::settings::{Setting, put_settings};
-use crate::standing::{Reason, Standing};
+use crate::assignments::{Assignment, put_assignments};
 use crate::step::Step;
+use crate::thread_state::{Reason, ThreadState};
 use guest_code::limits::LOCALS;
 use guest_code::program::Program;
 use schedules::execution::Execution;
@@ -27,24 +27,24 @@ pub struct Holder {
     pub since: usize,
 }
 
-/// A thread before its first step.
+/// A thread before the first step of a schedule.
 #[derive(Debug, Drop)]
 pub struct Start {
-    /// The locals that the thread set by itself.
-    pub settings: Vec<Setting>,
-    /// The number of the instruction that the thread came to.
+    /// The locals that the thread set in its local run from its first instruction on.
+    pub assignments: Vec<Assignment>,
+    /// The number of the instruction that the thread is at after that local run.
     pub next: usize,
-    /// Why the thread stopped, if it did.
+    /// Why the thread stopped in that local run; `None` where it didn't.
     pub stop: Option<Stop>,
 }
 
-/// A schedule as far as it runs, and where it leads.
+/// A schedule as far as it runs: its steps, and the threads and mutexes where it leads.
 #[derive(Debug, Drop)]
 pub struct Explanation {
     schedule: Vec<u8>,
     steps: Vec<Step>,
-    opening: Vec<Start>,
-    standings: Vec<Standing>,
+    starts: Vec<Start>,
+    thread_states: Vec<ThreadState>,
     holders: Vec<Option<Holder>>,
     preemptions: usize,
     kind: Option<Kind>,
@@ -52,7 +52,8 @@ pub struct Explanation {
 }
 
 impl Explanation {
-    /// The explanation of a schedule, up to its end or to where it can't go on.
+    /// The explanation of a schedule, which is carried out to its end, or up to a step of a thread
+    /// that isn't enabled.
     ///
     /// # Errors
     ///
@@ -62,15 +63,15 @@ impl Explanation {
     {
         let run = Run::new(alloc, program, schedule)?;
         let state = run.execution.state();
-        let standings = standings_in(alloc, state, program)?;
+        let thread_states = thread_states_in(alloc, state, program)?;
         let kind = state.kind(program);
         let preemptions = run.execution.preemptions();
-        let opening = starts_of(alloc, program)?;
+        let starts = starts_of(alloc, program)?;
         Ok(Explanation {
             schedule: schedule.to_vec(alloc)?,
             steps: run.steps,
-            opening,
-            standings,
+            starts,
+            thread_states,
             holders: run.holders,
             preemptions,
             kind,
@@ -78,77 +79,82 @@ impl Explanation {
         })
     }
 
-    /// The schedule that is explained, with what of it didn't run.
+    /// The schedule that is explained, as it was given: also those of its steps that weren't taken,
+    /// from the first of a thread that isn't enabled on.
     pub fn schedule(&self) -> &[u8]
         ensures { result.now ≡ self.now.schedule.items }
     {
         self.schedule.as_slice()
     }
 
-    /// Each thread before its first step.
-    pub fn opening(&self) -> &[Start]
-        ensures { result.now ≡ self.now.opening.items }
+    /// The start of each thread, by number: its local run before the first step of the schedule.
+    pub fn starts(&self) -> &[Start]
+        ensures { result.now ≡ self.now.starts.items }
     {
-        self.opening.as_slice()
+        self.starts.as_slice()
     }
 
-    /// Each step that ran, in the order of the schedule.
+    /// The steps of the schedule that were taken, in their order.
     pub fn steps(&self) -> &[Step]
         ensures { result.now ≡ self.now.steps.items }
     {
         self.steps.as_slice()
     }
 
-    /// Where each thread is at the end of what ran.
-    pub fn standings(&self) -> &[Standing]
-        ensures { result.now ≡ self.now.standings.items }
+    /// The state of each thread, by number, after the last step that was taken.
+    pub fn thread_states(&self) -> &[ThreadState]
+        ensures { result.now ≡ self.now.thread_states.items }
     {
-        self.standings.as_slice()
+        self.thread_states.as_slice()
     }
 
-    /// Who owns each mutex at the end, and since which step.
+    /// For each mutex, by number, the thread that owns it after the last step that was taken, and
+    /// since which step; `None` for a mutex that nobody owns.
     pub fn holders(&self) -> &[Option<Holder>]
         ensures { result.now ≡ self.now.holders.items }
     {
         self.holders.as_slice()
     }
 
-    /// How many switches of the schedule, as far as it ran, were preempting.
+    /// How many preemptions the schedule has, in the steps that were taken.
     pub fn preemptions(&self) -> usize
         ensures { result ≡ self.now.preemptions }
     {
         self.preemptions
     }
 
-    /// How the schedule ends; `None` where it isn't complete or can't go on.
+    /// How the schedule ends; `None` where a thread is still enabled after the last step taken.
     pub fn kind(&self) -> Option<Kind>
         ensures { result ≡ self.now.kind }
     {
         self.kind
     }
 
-    /// The number of the thread that was to take the next step, where it can't.
+    /// The number of a thread that isn't enabled after the last step that was taken, though the
+    /// schedule has it step next; `None` where all steps of the schedule were taken.
     pub fn refused(&self) -> Option<u8>
         ensures { result ≡ self.now.refused }
     {
         self.refused
     }
 
-    /// Where a thread is at the end of what ran; `None` where no thread has this number.
-    pub fn standing(&self, thread: u8) -> Option<&Standing>
-        ensures { option_copied result ≡ slice_get self.now.standings.items thread }
+    /// The state of a thread after the last step that was taken; `None` where no thread has this
+    /// number.
+    pub fn thread_state(&self, thread: u8) -> Option<&ThreadState>
+        ensures { option_copied result ≡ slice_get self.now.thread_states.items thread }
     {
-        self.standings.get(thread as usize)
+        self.thread_states.get(thread as usize)
     }
 
-    /// What a thread waits for at the end, if it is blocked.
+    /// What a thread waits for after the last step that was taken; `None` where it isn't blocked.
     pub fn reason(&self, thread: u8) -> Option<Reason>
-        ensures { result ≡ reason_of (slice_get self.now.standings.items thread) }
+        ensures { result ≡ reason_of (slice_get self.now.thread_states.items thread) }
     {
-        self.standings.get(thread as usize)?.reason
+        self.thread_states.get(thread as usize)?.reason
     }
 
-    /// Who owns a mutex at the end, if a thread does.
+    /// The thread that owns a mutex after the last step that was taken, and since which step;
+    /// `None` where nobody owns it.
     pub fn holder(&self, mutex: usize) -> Option<Holder>
         ensures { result ≡ slice_index_or self.now.holders.items mutex None }
     {
@@ -166,7 +172,8 @@ struct Run {
 }
 
 impl Run {
-    // Carries a schedule out, up to its end or to where it can't go on.
+    // Carries a schedule out from the start, to its end, or up to a step of a thread that isn't
+    // enabled, the number of which is then `refused`.
     fn new(alloc: Global, program: &Program, schedule: &[u8]) -> Result<Run, AllocError>
         ensures { IfOk result (IsCarriedOut program.now schedule.now) }
     {
@@ -197,7 +204,7 @@ impl Run {
     }
 }
 
-// Whether a number is that of a thread that is enabled.
+// Whether a thread is enabled in a state; false where the program has no thread of this number.
 fn can_step(state: &State, program: &Program, thread: u8) -> bool
     requires { IsOf program.now state.now }
     ensures { result ≡ is_enabled program.now state.now thread }
@@ -205,7 +212,8 @@ fn can_step(state: &State, program: &Program, thread: u8) -> bool
     thread < program.threads() && state.is_enabled(program, thread)
 }
 
-// Brings the owners of the mutexes up to date after the step at place `at`, which led to a state.
+// Updates the owners of all mutexes, and since which step they own them, for the step at place `at`
+// of the schedule, which led to `state`.
 fn update_holders(holders: &mut [Option<Holder>], state: &State, at: usize)
     requires { length holders.old ≡ length state.now.owners }
     ensures { AreHoldersAfter holders.old holders.new state.now at }
@@ -215,7 +223,8 @@ fn update_holders(holders: &mut [Option<Holder>], state: &State, at: usize)
     }
 }
 
-// Who owns a mutex after the step at place `at`: `holder` did before, and now thread `owner` does.
+// The owner of a mutex after the step at place `at`, and since which step. Before the step that was
+// `holder`, after it thread `owner` owns the mutex: where that is the same thread, `holder` stays.
 fn holder_after(holder: Option<Holder>, owner: Option<u8>, at: usize) -> Option<Holder>
     ensures { result ≡ holder_after holder owner at }
 {
@@ -226,33 +235,33 @@ fn holder_after(holder: Option<Holder>, owner: Option<u8>, at: usize) -> Option<
     }
 }
 
-// Where each thread is in a state.
-fn standings_in(
+// The state of each thread, by number, in a state of the program.
+fn thread_states_in(
     alloc: Global,
     state: &State,
     program: &Program,
-) -> Result<Vec<Standing>, AllocError>
+) -> Result<Vec<ThreadState>, AllocError>
     requires { IsOf program.now state.now }
     ensures { IfOk result (λ v. TellsThreads program.now state.now v.items) }
 {
-    let mut standings = Vec::new(alloc);
+    let mut thread_states = Vec::new(alloc);
     for t in 0..program.threads() {
-        standings.push(Standing::of(state, program, t))?;
+        thread_states.push(ThreadState::of(state, program, t))?;
     }
-    Ok(standings)
+    Ok(thread_states)
 }
 
-// Each thread before its first step.
+// The start of each thread, by number: its local run before the first step of a schedule.
 fn starts_of(alloc: Global, program: &Program) -> Result<Vec<Start>, AllocError>
     ensures { IfOk result (λ v. TellsOpening program.now v.items) }
 {
     let state = State::start(alloc, program)?;
     let mut starts = Vec::new(alloc);
     for t in 0..program.threads() {
-        let mut settings = Vec::new(alloc);
-        put_settings(&mut settings, program.code(t), &mut [0; LOCALS], 0)?;
+        let mut assignments = Vec::new(alloc);
+        put_assignments(&mut assignments, program.code(t), &mut [0; LOCALS], 0)?;
         starts.push(Start {
-            settings,
+            assignments,
             next: state.pc(t),
             stop: state.status(t).stop(),
         })?;

@@ -5,18 +5,18 @@
 //! places that an explanation is told with; the texts are made in crates above.
 #![tactic(auto)]
 
+mod assignments;
 mod explanation;
 mod object;
-mod settings;
 mod source;
-mod standing;
 mod statement;
 mod step;
+mod thread_state;
 
+pub use crate::assignments::Assignment;
 pub use crate::explanation::{Explanation, Holder, Start};
-pub use crate::object::{Object, Reading};
-pub use crate::settings::Setting;
+pub use crate::object::{Object, ObjectState};
 pub use crate::source::Source;
-pub use crate::standing::{Reason, Standing};
 pub use crate::statement::{Statement, name_text, op_text};
 pub use crate::step::Step;
+pub use crate::thread_state::{Reason, ThreadState};

@@ -1,4 +1,4 @@
-//! Objects of a program, and what is to be seen of them in a state.
+//! Objects of a program, and the state of each.
 
 ghost use Rattle.std.specs.Prelude.{◌≡◌};
 ghost use Rattle.semantics.specs.Reachable.{IsOf};
@@ -20,9 +20,9 @@ pub enum Object {
     Semaphore(usize),
 }
 
-/// What an object is in a state.
+/// What a state says of an object.
 #[derive(Clone, Copy, Debug, PartialEq, Eq)]
-pub enum Reading {
+pub enum ObjectState {
     /// The value of a variable.
     Value(i64),
     /// The thread that owns a mutex, if one does.
@@ -34,7 +34,7 @@ pub enum Reading {
 }
 
 impl Object {
-    /// The object that an action is on: of a `wait` its condition.
+    /// The object that an action is on; of a `wait`, which is on two, the condition.
     pub fn of(action: Action) -> Object
         ensures { result ≡ object_of action }
     {
@@ -46,16 +46,17 @@ impl Object {
         }
     }
 
-    /// What the object is in a state.
-    pub fn reading(self, state: &State) -> Reading
+    /// What a state says of the object: a variable's value, the thread that owns a mutex, how many
+    /// threads wait for a condition, or a semaphore's count.
+    pub fn state_in(self, state: &State) -> ObjectState
         requires { (p : Program) × IsOf p state.now × IsObjectOf p self }
         ensures { result ≡ reading_of state.now self }
     {
         match self {
-            Object::Variable(x) => Reading::Value(state.variables()[x]),
-            Object::Mutex(m) => Reading::Owner(state.owner(m)),
-            Object::Condition(c) => Reading::Waiting(state.queue_len(c)),
-            Object::Semaphore(k) => Reading::Count(state.count(k)),
+            Object::Variable(x) => ObjectState::Value(state.variables()[x]),
+            Object::Mutex(m) => ObjectState::Owner(state.owner(m)),
+            Object::Condition(c) => ObjectState::Waiting(state.queue_len(c)),
+            Object::Semaphore(k) => ObjectState::Count(state.count(k)),
         }
     }
 }

@@ -1,4 +1,4 @@
-//! What an explanation is told with: the file, its text, and the program that the text spells.
+//! The names and places that an explanation is told with: a guest's file, text and program.
 
 ghost use Rattle.std.specs.Prelude.{◌≡◌, ℕ, length};
 ghost use Rattle.guest_code.specs.Program.{thread_at};
@@ -9,7 +9,7 @@ use guest_code::program::{Instruction, Program};
 use guest_code::source_map::SourceMap;
 use guest_syntax::Pos;
 
-/// A guest file and its program, which has the names.
+/// A guest's file and text, and the program that the text spells, which has the names.
 #[derive(Drop)]
 pub struct Source<'a> {
     /// The name of the file.
@@ -27,7 +27,7 @@ pub struct Source<'a> {
 
 impl<'a> Source<'a> {
     /// The name of a thread; `?` where there is no such thread.
-    pub fn thread(&self, thread: u8) -> &'a [u8] {
+    pub fn thread_name(&self, thread: u8) -> &'a [u8] {
         if thread < self.program.threads() {
             self.program.thread_name(thread)
         } else {
@@ -36,7 +36,7 @@ impl<'a> Source<'a> {
     }
 
     /// The name of an object; `?` where there is no such object.
-    pub fn object(&self, object: Object) -> &'a [u8] {
+    pub fn object_name(&self, object: Object) -> &'a [u8] {
         match object {
             Object::Variable(x) if x < self.program.variables() as usize => {
                 self.program.variable_name(x)
@@ -53,7 +53,7 @@ impl<'a> Source<'a> {
     }
 
     /// The name of a local of a thread; `?` where there is no such local.
-    pub fn local(&self, thread: u8, local: usize) -> &'a [u8] {
+    pub fn local_name(&self, thread: u8, local: usize) -> &'a [u8] {
         if thread < self.program.threads() && local < self.program.locals(thread) {
             self.map.local(thread, local)
         } else {
@@ -61,7 +61,8 @@ impl<'a> Source<'a> {
         }
     }
 
-    /// An instruction of a thread; `None` at the end of its code.
+    /// The instruction of a number in a thread's code; `None` where there is no such thread or
+    /// instruction.
     pub fn instruction(&self, thread: u8, instruction: usize) -> Option<Instruction> {
         if thread < self.program.threads() {
             self.program.code(thread).get(instruction).copied()
@@ -70,7 +71,8 @@ impl<'a> Source<'a> {
         }
     }
 
-    /// The place in the text of an instruction of a thread; `None` at the end of its code.
+    /// The place in the text of the instruction of a number in a thread's code; `None` where there
+    /// is no such thread or instruction.
     pub fn place(&self, thread: u8, instruction: usize) -> Option<Pos> {
         if thread < self.program.threads() && instruction < self.program.code(thread).len() {
             Some(self.map.place(thread, instruction))
@@ -79,7 +81,8 @@ impl<'a> Source<'a> {
         }
     }
 
-    /// The line of an instruction of a thread, from 1; 0 at the end of its code.
+    /// The line in the text, from 1, of the instruction of a number in a thread's code; 0 where there
+    /// is no such thread or instruction.
     pub fn line(&self, thread: u8, instruction: usize) -> u32 {
         match self.place(thread, instruction) {
             Some(place) => place.line,

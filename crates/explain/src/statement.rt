@@ -1,4 +1,4 @@
-//! Statements as a guest's text spells them.
+//! Statements of a program's code, written as a guest's text spells them.
 
 use crate::object::Object;
 use crate::source::Source;
@@ -7,12 +7,12 @@ use guest_syntax::tree::Op;
 use std::fmt;
 use std::str::from_utf8;
 
-/// A name of a guest, which is ASCII, as text.
+/// Bytes as text, such as a name in a guest, which is ASCII; `?` where they aren't UTF-8.
 pub fn name_text(name: &[u8]) -> &str {
     from_utf8(name).unwrap_or("?")
 }
 
-/// The spelling of an operator.
+/// The spelling of an operator in a guest's text.
 pub fn op_text(op: Op) -> &'static str {
     match op {
         Op::Add => "+",
@@ -27,7 +27,7 @@ pub fn op_text(op: Op) -> &'static str {
     }
 }
 
-// A local or a number of a thread's statement.
+// A local or a number in a thread's statement, to be written as its name or in decimal digits.
 #[derive(Clone, Copy)]
 struct Operand<'a> {
     source: &'a Source<'a>,
@@ -38,13 +38,13 @@ struct Operand<'a> {
 impl fmt::Display for Operand<'_> {
     fn fmt<W: fmt::Write>(&self, f: &mut fmt::Formatter<W>) -> fmt::Result {
         match self.value {
-            Value::Local(r) => f.write_str(name_text(self.source.local(self.thread, r))),
+            Value::Local(r) => f.write_str(name_text(self.source.local_name(self.thread, r))),
             Value::Literal(n) => write!(f, "{n}"),
         }
     }
 }
 
-/// A statement of a thread, as a text spells it; nothing at the end of the thread's code.
+/// A statement of a thread, to be written as a text spells it; nothing at the end of its code.
 #[derive(Clone, Copy)]
 pub struct Statement<'a> {
     /// The guest file and its program, which have the names.
@@ -55,7 +55,7 @@ pub struct Statement<'a> {
     pub instruction: usize,
 }
 
-// An expression of a thread's statement.
+// An expression in a thread's statement, to be written as a text spells it.
 #[derive(Clone, Copy)]
 struct ExpressionText<'a> {
     statement: Statement<'a>,
@@ -76,17 +76,17 @@ impl fmt::Display for ExpressionText<'_> {
 }
 
 impl<'a> Statement<'a> {
-    // The name of a local of the thread.
-    fn local(&self, local: usize) -> &str {
-        name_text(self.source.local(self.thread, local))
+    // The name of a local of the statement's thread; `?` where the thread has no such local.
+    fn local_name(&self, local: usize) -> &str {
+        name_text(self.source.local_name(self.thread, local))
     }
 
-    // The name of an object.
-    fn object(&self, object: Object) -> &str {
-        name_text(self.source.object(object))
+    // The name of an object of the program; `?` where there is no such object.
+    fn object_name(&self, object: Object) -> &str {
+        name_text(self.source.object_name(object))
     }
 
-    // An operand of the statement: a local's name, or a number.
+    // An operand of the statement, to be written: a local as its name, or a number.
     fn operand(&self, value: Value) -> Operand<'_> {
         Operand {
             source: self.source,
@@ -95,7 +95,7 @@ impl<'a> Statement<'a> {
         }
     }
 
-    // An expression of the statement.
+    // An expression of the statement, to be written as a text spells it.
     fn expression(&self, expression: Expression) -> ExpressionText<'a> {
         ExpressionText {
             statement: *self,
@@ -103,7 +103,8 @@ impl<'a> Statement<'a> {
         }
     }
 
-    // Writes a statement on a variable, or one that the thread carries out by itself.
+    // Writes a statement with values, not one on a mutex, a condition or a semaphore: one on a
+    // variable, or a `set`, an `assert`, an `if` without its block, or else a `leave`.
     fn write_value_statement<W: fmt::Write>(
         &self,
         f: &mut fmt::Formatter<W>,
@@ -114,15 +115,15 @@ impl<'a> Statement<'a> {
                 write!(
                     f,
                     "load {} {}",
-                    self.local(local),
-                    self.object(Object::Variable(variable))
+                    self.local_name(local),
+                    self.object_name(Object::Variable(variable))
                 )
             }
             Instruction::Store { variable, value } => {
                 write!(
                     f,
                     "store {} {}",
-                    self.object(Object::Variable(variable)),
+                    self.object_name(Object::Variable(variable)),
                     self.operand(value)
                 )
             }
@@ -131,8 +132,13 @@ impl<'a> Statement<'a> {
                 variable,
                 value,
             } => {
-                let x = self.object(Object::Variable(variable));
-                write!(f, "add {} {x} {}", self.local(local), self.operand(value))
+                let x = self.object_name(Object::Variable(variable));
+                write!(
+                    f,
+                    "add {} {x} {}",
+                    self.local_name(local),
+                    self.operand(value)
+                )
             }
             Instruction::Cas {
                 local,
@@ -140,12 +146,17 @@ impl<'a> Statement<'a> {
                 expected,
                 new,
             } => {
-                let x = self.object(Object::Variable(variable));
+                let x = self.object_name(Object::Variable(variable));
                 let (expected, new) = (self.operand(expected), self.operand(new));
-                write!(f, "cas {} {x} {expected} {new}", self.local(local))
+                write!(f, "cas {} {x} {expected} {new}", self.local_name(local))
             }
             Instruction::Set { local, value } => {
-                write!(f, "set {} {}", self.local(local), self.expression(value))
+                write!(
+                    f,
+                    "set {} {}",
+                    self.local_name(local),
+                    self.expression(value)
+                )
             }
             Instruction::Assert(value) => write!(f, "assert {}", self.expression(value)),
             Instruction::SkipIfZero(value, _) => write!(f, "if {}", self.expression(value)),
@@ -160,18 +171,30 @@ impl fmt::Display for Statement<'_> {
             return Ok(());
         };
         match instruction {
-            Instruction::Lock(m) => write!(f, "lock {}", self.object(Object::Mutex(m))),
-            Instruction::Unlock(m) => write!(f, "unlock {}", self.object(Object::Mutex(m))),
+            Instruction::Lock(m) => write!(f, "lock {}", self.object_name(Object::Mutex(m))),
+            Instruction::Unlock(m) => write!(f, "unlock {}", self.object_name(Object::Mutex(m))),
             Instruction::Wait { condition, mutex } => {
-                let c = self.object(Object::Condition(condition));
-                write!(f, "wait {c} {}", self.object(Object::Mutex(mutex)))
+                let c = self.object_name(Object::Condition(condition));
+                write!(f, "wait {c} {}", self.object_name(Object::Mutex(mutex)))
             }
-            Instruction::Signal(c) => write!(f, "signal {}", self.object(Object::Condition(c))),
+            Instruction::Signal(c) => write!(
+                f,
+                "signal {}",
+                self.object_name(Object::Condition(c))
+            ),
             Instruction::Broadcast(c) => {
-                write!(f, "broadcast {}", self.object(Object::Condition(c)))
+                write!(f, "broadcast {}", self.object_name(Object::Condition(c)))
             }
-            Instruction::Acquire(k) => write!(f, "acquire {}", self.object(Object::Semaphore(k))),
-            Instruction::Release(k) => write!(f, "release {}", self.object(Object::Semaphore(k))),
+            Instruction::Acquire(k) => write!(
+                f,
+                "acquire {}",
+                self.object_name(Object::Semaphore(k))
+            ),
+            Instruction::Release(k) => write!(
+                f,
+                "release {}",
+                self.object_name(Object::Semaphore(k))
+            ),
             _ => self.write_value_statement(f, instruction),
         }
     }

@@ -7,8 +7,8 @@ ghost use Rattle.semantics.specs.Reachable.{IsOf, IsValidAction};
 ghost use Rattle.schedules.specs.Execution.{IsExecutionOf};
 ghost use Rattle.explain.specs.Steps.{IsTakenStep, held_in, lines_of, woken_in};
 
-use crate::object::{Object, Reading};
-use crate::settings::{Passage, Setting, settings_of};
+use crate::assignments::{Assignment, Passage, assignments_of};
+use crate::object::{Object, ObjectState};
 use guest_code::program::Program;
 use replay::{Line, act_of};
 use schedules::execution::Execution;
@@ -23,16 +23,16 @@ pub struct Step {
     pub line: Line,
     /// The number of the instruction that the step carried out.
     pub instruction: usize,
-    /// The number of the instruction that the thread came to.
+    /// The number of the instruction that the thread was at after the step, and its local run.
     pub next: usize,
     /// The object that the step is on: of a `wait` the condition.
     pub object: Object,
-    /// What the object was before the step.
-    pub old: Reading,
-    /// What the object was after the step.
-    pub new: Reading,
-    /// The locals that the thread set, in the step and by itself after it.
-    pub settings: Vec<Setting>,
+    /// The state of the object before the step.
+    pub old: ObjectState,
+    /// The state of the object after the step.
+    pub new: ObjectState,
+    /// The locals that the thread set, in the step and in the local run after it.
+    pub assignments: Vec<Assignment>,
     /// The threads that the step woke, the one that waited longest first.
     pub woken: Vec<u8>,
     /// The mutexes that the thread owned when it took the step, in rising order.
@@ -40,7 +40,8 @@ pub struct Step {
 }
 
 impl Step {
-    /// Takes a step of a thread that is enabled, and answers what the step did and changed.
+    /// Takes a step of a thread that is enabled, in `execution`, and answers what the step did and
+    /// changed.
     ///
     /// # Errors
     ///
@@ -62,7 +63,7 @@ impl Step {
         let act = act_of(state, program, thread, action);
         let instruction = state.pc(thread);
         let object = Object::of(action);
-        let old = object.reading(state);
+        let old = object.state_in(state);
         let held = held_by(alloc, state, program, thread)?;
         let woken = woken_by(alloc, state, action)?;
         let preempting = execution.preempts(program, thread);
@@ -74,7 +75,7 @@ impl Step {
             to: state.pc(thread),
             locals,
         };
-        let settings = settings_of(alloc, program.code(thread), passage, act)?;
+        let assignments = assignments_of(alloc, program.code(thread), passage, act)?;
         Ok(Step {
             line: Line {
                 thread,
@@ -86,15 +87,15 @@ impl Step {
             next: passage.to,
             object,
             old,
-            new: object.reading(state),
-            settings,
+            new: object.state_in(state),
+            assignments,
             woken,
             held,
         })
     }
 }
 
-// The mutexes that a thread owns, in rising order.
+// The numbers of the mutexes that a thread owns in a state, in rising order.
 fn held_by(
     alloc: Global,
     state: &State,
@@ -113,7 +114,8 @@ fn held_by(
     Ok(held)
 }
 
-// The threads that an action wakes, the one that waited longest first.
+// The threads that an action wakes in a state, the one that waited longest first: of a `signal` one
+// at most, of a `broadcast` all that wait for the condition, of any other action none.
 fn woken_by(alloc: Global, state: &State, action: Action) -> Result<Vec<u8>, AllocError>
     requires { (p : Program) × IsOf p state.now × IsValidAction p action }
     ensures { IfOk result (λ v. v.items ≡ woken_in state.now action) }
@@ -127,7 +129,8 @@ fn woken_by(alloc: Global, state: &State, action: Action) -> Result<Vec<u8>, All
     }
 }
 
-// The first threads in the queue of a condition, at most `most` of them.
+// The threads that wait longest for a condition, the longest first: `most` of them, or all where
+// fewer wait.
 fn first_queued(
     alloc: Global,
     state: &State,

@@ -14,15 +14,15 @@ use waits::Waits;
 /// What the JSON of an explanation is written from.
 #[derive(Drop)]
 pub struct Facts<'a> {
-    /// Where values take memory.
+    /// The allocator of what is made while the facts are written.
     pub alloc: Global,
-    /// The schedule as far as it ran, and where that leads.
+    /// The schedule, its steps as far as it ran, and the state after the last one.
     pub explanation: &'a Explanation,
     /// The guest's text, with the names and places of its program.
     pub source: &'a Source<'a>,
     /// What happened in the run, and what of that is in the cause of how the run ended.
     pub causes: Causes,
-    /// Who could end the wait of each thread.
+    /// Which blocked threads there are, and which statements could end their waits.
     pub waits: Waits,
     /// From which files the lines of the text come, by the marks of a preprocessor.
     pub marks: Marks,
@@ -35,7 +35,7 @@ pub struct Facts<'a> {
 }
 
 impl<'a> Facts<'a> {
-    /// What the JSON of an explanation is written from, with `search` and `why` as the fields have them.
+    /// What the JSON of an explanation is written from; `search` and `why` are as in the fields.
     pub fn new(
         alloc: Global,
         explanation: &'a Explanation,
@@ -56,45 +56,51 @@ impl<'a> Facts<'a> {
         })
     }
 
-    /// The name of a thread.
+    /// The name of the thread of this number.
     pub fn thread_name(&self, thread: u8) -> &str {
-        name_text(self.source.thread(thread))
+        name_text(self.source.thread_name(thread))
     }
 
-    /// The names of threads.
+    /// The names of the threads of these numbers, in the same order.
     pub fn thread_names(&self, threads: &[u8]) -> Result<Vec<&str>, AllocError> {
         let names = threads.iter().map(|thread| self.thread_name(*thread));
         names.collect(self.alloc)
     }
 
-    /// The names of the threads in a set.
-    pub fn names_in(&self, threads: Mask) -> Result<Vec<&str>, AllocError> {
+    /// The names of the threads in a set, by rising number.
+    pub fn thread_names_in(&self, threads: Mask) -> Result<Vec<&str>, AllocError> {
         let members = (0..THREADS as u8).filter(|thread| threads.contains(*thread));
         members.map(|t| self.thread_name(t)).collect(self.alloc)
     }
 
-    /// For each circle of threads that wait for one another, the names of the threads.
-    pub fn circles(&self) -> Result<Vec<Vec<&str>>, AllocError> {
-        let circles = self.waits.circles().iter().map(|set| self.names_in(*set));
+    /// The names of the threads in each circle. A circle is a set of threads each of which waits,
+    /// through others if need be, for each of them.
+    pub fn circle_names(&self) -> Result<Vec<Vec<&str>>, AllocError> {
+        let circles = self
+            .waits
+            .circles()
+            .iter()
+            .map(|set| self.thread_names_in(*set));
         circles.try_collect(self.alloc)
     }
 
     /// The name of an object.
     pub fn object_name(&self, object: Object) -> &str {
-        name_text(self.source.object(object))
+        name_text(self.source.object_name(object))
     }
 
-    /// The names of the mutexes.
+    /// The names of the mutexes, in the order of declaration.
     pub fn mutex_names(&self) -> Result<Vec<&str>, AllocError> {
         self.object_names(self.source.program.mutexes(), Object::Mutex)
     }
 
-    /// The names of the conditions.
+    /// The names of the conditions, in the order of declaration.
     pub fn condition_names(&self) -> Result<Vec<&str>, AllocError> {
         self.object_names(self.source.program.conditions(), Object::Condition)
     }
 
-    /// The names of the objects of a kind, of which there are `count`.
+    /// The names of the objects numbered from 0 up to `count`, where `kind` makes an object of a
+    /// number, as `Object::Mutex` does.
     pub fn object_names<F: Fn(usize) -> Object>(
         &self,
         count: u8,
@@ -106,7 +112,7 @@ impl<'a> Facts<'a> {
         names.collect(self.alloc)
     }
 
-    /// The name of the mutex that a step frees, if the step is a `wait`.
+    /// The name of the mutex that a step unlocks by a `wait`; `None` where the step is no `wait`.
     pub fn wait_mutex_name(&self, step: &Step) -> Option<&str> {
         match step.line.act {
             Act::Wait { mutex, .. } => Some(self.object_name(Object::Mutex(mutex))),
@@ -114,12 +120,12 @@ impl<'a> Facts<'a> {
         }
     }
 
-    /// The name of a local of a thread.
+    /// The name of the local of this number of a thread.
     pub fn local_name(&self, thread: u8, local: usize) -> &str {
-        name_text(self.source.local(thread, local))
+        name_text(self.source.local_name(thread, local))
     }
 
-    /// An instruction of a thread, as a statement.
+    /// The statement of an instruction of a thread, as the guest's text spells it.
     pub fn statement(&self, thread: u8, instruction: usize) -> Statement<'_> {
         Statement {
             source: self.source,
@@ -128,7 +134,7 @@ impl<'a> Facts<'a> {
         }
     }
 
-    /// The schedule, with what didn't run of it, as a text.
+    /// The whole schedule as it is printed: also the steps that didn't run.
     pub fn schedule(&self) -> Result<String, AllocError> {
         let schedule = schedule_text(self.alloc, self.explanation.schedule())?;
         String::from_utf8_lossy(self.alloc, schedule.as_slice())

@@ -1,8 +1,8 @@
 //! The threads that stopped, and where the values of a failed assertion came from.
 
 use crate::facts::Facts;
-use crate::scribe::{Scribe, Written};
 use crate::words::stop_word;
+use crate::writer::{Writer, Written};
 use causes::Event;
 use explain::Object;
 use guest_code::program::{Expression, Instruction, Value};
@@ -12,8 +12,9 @@ use std::alloc::AllocError;
 use std::collections::BTreeSet;
 
 impl Facts<'_> {
-    // The places of the events before `end` that the value of a thread's local came from: those that set
-    // the local or the locals that its value was made of, and those that wrote what the former read.
+    // Where the value of a thread's local before the event at place `end` came from, as places of
+    // events: those that set the local, or another local from which the value was computed, and
+    // those that wrote the variables which these events read.
     fn origins(&self, end: usize, thread: u8, local: usize) -> Result<BTreeSet<usize>, AllocError> {
         let mut wanted = BTreeSet::new(self.alloc);
         let mut origins = BTreeSet::new(self.alloc);
@@ -33,8 +34,8 @@ impl Facts<'_> {
     }
 }
 
-impl<S: Serializer> Scribe<'_, S> {
-    /// Writes each thread that stopped, the first one to stop first.
+impl<S: Serializer> Writer<'_, S> {
+    /// Writes an object for each thread that stopped, in the order in which they stopped.
     pub fn put_failures(&mut self) -> Written<S> {
         self.begin_list("failures")?;
         for (at, event) in self.facts.causes.events().iter().enumerate() {
@@ -45,7 +46,9 @@ impl<S: Serializer> Scribe<'_, S> {
         self.out.end_seq()
     }
 
-    // Writes the thread that stopped by the event at a place; of an `unlock` or a `wait` also the mutex.
+    // Writes an object for the thread that stopped in an event, the one at place `at` of the run:
+    // where and why it stopped; of an `unlock` or a `wait` also the mutex and who owned it, of an
+    // assertion the values of its locals.
     fn put_failure(&mut self, at: usize, event: &Event, stop: Stop) -> Written<S> {
         let facts = self.facts;
         let statement = facts.statement(event.thread, event.instruction);
@@ -72,7 +75,9 @@ impl<S: Serializer> Scribe<'_, S> {
         self.out.end_map()
     }
 
-    // Writes the locals of the assertion at a place, in the assertion's order, each once.
+    // Writes the list `values`: the locals of an assertion, the event at place `at` of the run,
+    // each once, with its value and where that came from. It is empty where the event is no
+    // assertion.
     fn put_values(&mut self, at: usize, event: &Event) -> Written<S> {
         let facts = self.facts;
         let locals = match event.statement {
@@ -81,7 +86,7 @@ impl<S: Serializer> Scribe<'_, S> {
         };
         self.begin_list("values")?;
         for local in locals.into_iter().flatten() {
-            let standing = facts.explanation.standing(event.thread);
+            let standing = facts.explanation.thread_state(event.thread);
             let value = standing.and_then(|standing| standing.locals.get(local));
             self.out.begin_map(None)?;
             self.put("local", facts.local_name(event.thread, local))?;
@@ -92,7 +97,8 @@ impl<S: Serializer> Scribe<'_, S> {
         self.out.end_seq()
     }
 
-    // Writes the statements that the value of a thread's local came from, up to the event at a place.
+    // Writes the list `origins`: the statements from which a thread's local has the value before
+    // the event at place `at` of the run, in the order in which they were carried out.
     fn put_origins(&mut self, at: usize, thread: u8, local: usize) -> Written<S> {
         let facts = self.facts;
         let origins = self.allocated(facts.origins(at, thread, local))?;
@@ -111,7 +117,7 @@ impl<S: Serializer> Scribe<'_, S> {
     }
 }
 
-// The locals of an expression, each once.
+// The numbers of the locals in an expression, each once, in its order.
 fn locals_of(expression: Expression) -> [Option<usize>; 2] {
     match expression {
         Expression::Both(a, _, b) if a != b => [local_of(a), local_of(b)],
@@ -119,7 +125,7 @@ fn locals_of(expression: Expression) -> [Option<usize>; 2] {
     }
 }
 
-// The local that an operand is, if it is one.
+// The number of the local that an operand is; `None` where it is a literal.
 fn local_of(operand: Value) -> Option<usize> {
     match operand {
         Value::Local(local) => Some(local),

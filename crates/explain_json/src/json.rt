@@ -52,7 +52,8 @@ pub fn page_json<'a>(
     facts_json(&Facts::new(alloc, explanation, source, search, Some(why))?)
 }
 
-// The JSON of these facts. All that can go wrong is that memory runs out.
+// These facts as JSON. The serializer fails only where memory runs out: that is what its error
+// becomes.
 fn facts_json(facts: &Facts<'_>) -> Result<Vec<u8>, AllocError> {
     serde_json::to_vec(facts.alloc, facts).map_err(|_| AllocError)
 }

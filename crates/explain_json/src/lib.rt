@@ -1,6 +1,6 @@
 //! The explanation of a schedule for programs: as JSON.
 //!
-//! `facts` has what is told, and `scribe` writes the facts, key by key in the order of their bytes;
+//! `facts` has what is told, and `writer` writes it out, key by key in the order of their bytes;
 //! the other modules write the parts. `docs/FORMATS.md` says what each key means.
 #![tactic(auto)]
 
@@ -9,9 +9,9 @@ mod failures;
 mod json;
 mod objects;
 mod places;
-mod scribe;
 mod steps;
 mod threads;
 mod words;
+mod writer;
 
 pub use crate::json::{explanation_json, no_schedule_json, page_json};

@@ -1,13 +1,13 @@
-//! What the objects of a guest are before the first step, and after each step.
+//! The states of a guest's objects before the first step, and after each step.
 
 use crate::facts::Facts;
-use explain::{Object, Reading, Step};
+use explain::{Object, ObjectState, Step};
 use serde::Serialize;
 use std::alloc::AllocError;
 use std::collections::BTreeMap;
 
 /// The values of objects or locals, by the names of these.
-pub type Named<'a, T> = BTreeMap<&'a str, T>;
+pub type ByName<'a, T> = BTreeMap<&'a str, T>;
 
 /// The owner of a mutex, and since which step.
 #[derive(Clone, Copy, Drop, Serialize)]
@@ -16,58 +16,66 @@ pub struct MutexOwner<'a> {
     pub since: usize,
 }
 
-/// What the objects are at a time: who waits for each condition, the one that waited longest first,
-/// the owners of mutexes, the counts of semaphores and the values of variables.
+/// The states of all objects at one point of the run, by name: who waits for each condition, the
+/// one that waited longest first, the owners of mutexes, the counts of semaphores and the values of
+/// variables.
 #[derive(Drop, Serialize)]
 pub struct ObjectStates<'a> {
-    pub conditions: Named<'a, Vec<&'a str>>,
-    pub mutexes: Named<'a, Option<MutexOwner<'a>>>,
-    pub semaphores: Named<'a, u16>,
-    pub variables: Named<'a, i64>,
+    pub conditions: ByName<'a, Vec<&'a str>>,
+    pub mutexes: ByName<'a, Option<MutexOwner<'a>>>,
+    pub semaphores: ByName<'a, u16>,
+    pub variables: ByName<'a, i64>,
 }
 
 impl<'a> ObjectStates<'a> {
-    /// The objects before the first step.
-    pub fn opening(facts: &'a Facts<'_>) -> Result<ObjectStates<'a>, AllocError> {
+    /// The states of the objects before the first step.
+    pub fn initial(facts: &'a Facts<'_>) -> Result<ObjectStates<'a>, AllocError> {
         Ok(ObjectStates {
             conditions: empty_queues(facts)?,
             mutexes: free_mutexes(facts)?,
-            semaphores: opening_counts(facts)?,
-            variables: opening_values(facts)?,
+            semaphores: initial_counts(facts)?,
+            variables: initial_values(facts)?,
         })
     }
 
-    /// The objects after the last step.
-    pub fn end(facts: &'a Facts<'_>) -> Result<ObjectStates<'a>, AllocError> {
-        let mut objects = ObjectStates::opening(facts)?;
+    /// The states of the objects after the last step that ran.
+    pub fn at_end(facts: &'a Facts<'_>) -> Result<ObjectStates<'a>, AllocError> {
+        let mut objects = ObjectStates::initial(facts)?;
         for (at, step) in facts.explanation.steps().iter().enumerate() {
-            objects.step(facts, at, step)?;
+            objects.apply_step(facts, at, step)?;
         }
         Ok(objects)
     }
 
-    /// Carries out the step at a place. Where the step's own object stays as it was, all objects do.
-    pub fn step(&mut self, facts: &'a Facts<'_>, at: usize, step: &Step) -> Result<(), AllocError> {
+    /// Brings the states from before the step at place `at` to after it. No object changes where
+    /// the step's own object doesn't.
+    pub fn apply_step(
+        &mut self,
+        facts: &'a Facts<'_>,
+        at: usize,
+        step: &Step,
+    ) -> Result<(), AllocError> {
         if step.old == step.new {
             return Ok(());
         }
         let name = facts.object_name(step.object);
         match step.new {
-            Reading::Value(value) => drop(self.variables.insert(name, value)?),
-            Reading::Count(count) => drop(self.semaphores.insert(name, count)?),
-            Reading::Owner(owner) => {
+            ObjectState::Value(value) => drop(self.variables.insert(name, value)?),
+            ObjectState::Count(count) => drop(self.semaphores.insert(name, count)?),
+            ObjectState::Owner(owner) => {
                 let owner = owner.map(|thread| MutexOwner {
                     holder: facts.thread_name(thread),
                     since: at,
                 });
                 drop(self.mutexes.insert(name, owner)?);
             }
-            Reading::Waiting(_) => self.update_queue(facts, step)?,
+            ObjectState::Waiting(_) => self.update_queue(facts, step)?,
         }
         Ok(())
     }
 
-    // Changes who waits for the condition of a step: a `wait` adds its thread and frees a mutex.
+    // Brings up to date who waits for the condition of a step: a `wait` adds its thread, and leaves
+    // its mutex without an owner; a `signal` or `broadcast` removes the threads that it woke.
     fn update_queue(&mut self, facts: &'a Facts<'_>, step: &Step) -> Result<(), AllocError> {
         let Some(queue) = self.conditions.get_mut(facts.object_name(step.object)) else {
             return Ok(());
@@ -83,38 +91,40 @@ impl<'a> ObjectStates<'a> {
     }
 }
 
-// The conditions as they are at first: nobody waits.
-fn empty_queues<'a>(facts: &'a Facts<'_>) -> Result<Named<'a, Vec<&'a str>>, AllocError> {
-    let mut queues = Named::new(facts.alloc);
+// By the name of each condition, who waits for it before the first step: nobody.
+fn empty_queues<'a>(facts: &'a Facts<'_>) -> Result<ByName<'a, Vec<&'a str>>, AllocError> {
+    let mut queues = ByName::new(facts.alloc);
     for name in facts.condition_names()? {
         queues.insert(name, Vec::new(facts.alloc))?;
     }
     Ok(queues)
 }
 
-// The mutexes as they are at first: nobody owns one.
-fn free_mutexes<'a>(facts: &'a Facts<'_>) -> Result<Named<'a, Option<MutexOwner<'a>>>, AllocError> {
-    let mut owners = Named::new(facts.alloc);
+// By the name of each mutex, who owns it before the first step: nobody.
+fn free_mutexes<'a>(
+    facts: &'a Facts<'_>,
+) -> Result<ByName<'a, Option<MutexOwner<'a>>>, AllocError> {
+    let mut owners = ByName::new(facts.alloc);
     for name in facts.mutex_names()? {
         owners.insert(name, None)?;
     }
     Ok(owners)
 }
 
-// The semaphores with their opening counts.
-fn opening_counts<'a>(facts: &'a Facts<'_>) -> Result<Named<'a, u16>, AllocError> {
+// By the name of each semaphore, its count before the first step.
+fn initial_counts<'a>(facts: &'a Facts<'_>) -> Result<ByName<'a, u16>, AllocError> {
     let program = facts.source.program;
-    let mut counts = Named::new(facts.alloc);
+    let mut counts = ByName::new(facts.alloc);
     for k in 0..program.semaphores() as usize {
         counts.insert(facts.object_name(Object::Semaphore(k)), program.count(k))?;
     }
     Ok(counts)
 }
 
-// The variables with their opening values.
-fn opening_values<'a>(facts: &'a Facts<'_>) -> Result<Named<'a, i64>, AllocError> {
+// By the name of each variable, its value before the first step.
+fn initial_values<'a>(facts: &'a Facts<'_>) -> Result<ByName<'a, i64>, AllocError> {
     let program = facts.source.program;
-    let mut values = Named::new(facts.alloc);
+    let mut values = ByName::new(facts.alloc);
     for x in 0..program.variables() as usize {
         values.insert(facts.object_name(Object::Variable(x)), program.opening(x))?;
     }

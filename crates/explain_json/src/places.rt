@@ -1,7 +1,7 @@
 //! Where statements are in the text, and which files the lines of the text come from.
 
 use crate::facts::Facts;
-use crate::scribe::{Scribe, Written};
+use crate::writer::{Writer, Written};
 use explain::{Statement, name_text};
 use guest_syntax::Pos;
 use guest_syntax::pieces::Pieces;
@@ -16,11 +16,11 @@ pub struct TextPlace {
     line: u32,
 }
 
-/// The place after each statement, by the line and the column where the statement begins.
+/// The place after the last byte of each statement, by the line and column of its first byte.
 pub type StatementEnds = BTreeMap<(u32, u32), TextPlace>;
 
-/// Where the statements of a text end: after the `;`, or, of a statement that has a block, after what
-/// comes before the `{`.
+/// Where the statements of a text end: after the `;`, or, of a statement that has a block, after
+/// what comes before the `{`.
 pub fn statement_ends(alloc: Global, text: &[u8]) -> Result<StatementEnds, AllocError> {
     let mut ends = StatementEnds::new(alloc);
     let mut begin = None;
@@ -41,14 +41,15 @@ pub fn statement_ends(alloc: Global, text: &[u8]) -> Result<StatementEnds, Alloc
     Ok(ends)
 }
 
-/// The line of a file that a preprocessor's mark names.
+/// A line of a file, from which a line of the text comes by a preprocessor's mark.
 #[derive(Clone, Copy, Drop, PartialEq, Serialize)]
 pub struct FilePlace<'a> {
     file: &'a str,
     line: u32,
 }
 
-/// Lines of the text, from `at` on, that come from a file one after the other, the first from `first`.
+/// Consecutive lines of the text, from line `at` on, that come from consecutive lines of a file,
+/// from `first` on.
 #[derive(Clone, Copy, Drop, Serialize)]
 pub struct FileRun<'a> {
     at: u32,
@@ -57,12 +58,13 @@ pub struct FileRun<'a> {
 }
 
 impl Facts<'_> {
-    // Where a statement begins in the text; `None` of the end of a thread's code.
+    // Where a statement begins in the text; `None` where it is the end of a thread's code.
     fn statement_start(&self, statement: Statement<'_>) -> Option<Pos> {
         self.source.place(statement.thread, statement.instruction)
     }
 
-    // Which line of a file a line of the text comes from, if a preprocessor's mark says so.
+    // Which line of a file a line of the text comes from, by a preprocessor's marks; `None` where
+    // no mark comes before the line.
     fn line_origin(&self, line: u32) -> Option<FilePlace<'_>> {
         let origin = self.marks.origin(line)?;
         Some(FilePlace {
@@ -71,7 +73,9 @@ impl Facts<'_> {
         })
     }
 
-    /// The runs of lines of the text that come from files, if a preprocessor's marks say so.
+    /// Which lines of the text come from which lines of which files, by a preprocessor's marks: an
+    /// item for each longest stretch of lines that come from consecutive lines of one file. `None`
+    /// where no line follows a mark.
     pub fn file_runs(&self) -> Result<Option<Vec<FileRun<'_>>>, AllocError> {
         let mut runs = Vec::new(self.alloc);
         let mut due = None;
@@ -91,20 +95,22 @@ impl Facts<'_> {
     }
 }
 
-impl<S: Serializer> Scribe<'_, S> {
-    /// Writes where a statement begins and ends, and its line last.
+impl<S: Serializer> Writer<'_, S> {
+    /// Writes where a statement begins and ends: `column`, `end`, `from` and `line`.
     pub fn put_place(&mut self, statement: Statement<'_>) -> Written<S> {
         self.put_extent(statement)?;
         self.put_line_number(statement)
     }
 
-    /// Writes the line of a statement alone: in a step the key `held` comes before that.
+    /// Writes the `line` in which a statement begins, apart from the statement's other keys: in a
+    /// step, the key `held` comes between them.
     pub fn put_line_number(&mut self, statement: Statement<'_>) -> Written<S> {
         let begin = self.facts.statement_start(statement);
         self.put("line", begin.map(|begin| begin.line))
     }
 
-    /// Writes where a statement begins and ends, all but its line.
+    /// Writes the `column` at which a statement begins, its `end`, and, where a preprocessor's mark
+    /// comes before it, the line of a file that it comes `from`.
     pub fn put_extent(&mut self, statement: Statement<'_>) -> Written<S> {
         let facts = self.facts;
         let begin = facts.statement_start(statement);
@@ -115,7 +121,7 @@ impl<S: Serializer> Scribe<'_, S> {
         self.put_some("from", from)
     }
 
-    /// Writes a statement as a text.
+    /// Writes the `text` of a statement.
     pub fn put_text(&mut self, statement: Statement<'_>) -> Written<S> {
         self.out.key("text")?;
         self.out.collect_str(&statement)

@@ -1,26 +1,26 @@
-//! What writes the steps, one after the other.
+//! The steps of an explanation as JSON.
 
 use crate::objects::ObjectStates;
-use crate::scribe::{Scribe, Written};
 use crate::words::{act_word, stop_word};
-use explain::{Object, Reading, Setting, Step};
+use crate::writer::{Writer, Written};
+use explain::{Assignment, Object, ObjectState, Step};
 use guest_code::program::Instruction;
 use serde::Serializer;
 
-impl<S: Serializer> Scribe<'_, S> {
-    /// Writes each step that ran, in order.
+impl<S: Serializer> Writer<'_, S> {
+    /// Writes the list `steps`: an object for each step that ran, in order.
     pub fn put_steps(&mut self) -> Written<S> {
         let facts = self.facts;
-        let mut objects = self.allocated(ObjectStates::opening(facts))?;
+        let mut objects = self.allocated(ObjectStates::initial(facts))?;
         self.begin_list("steps")?;
         for (at, step) in facts.explanation.steps().iter().enumerate() {
-            self.allocated(objects.step(facts, at, step))?;
+            self.allocated(objects.apply_step(facts, at, step))?;
             self.put_step(at, step, &objects)?;
         }
         self.out.end_seq()
     }
 
-    // Writes the step at a place, after which the objects are these.
+    // Writes the step at a place of the schedule; `objects` are the states of the objects after it.
     fn put_step(&mut self, at: usize, step: &Step, objects: &ObjectStates<'_>) -> Written<S> {
         let facts = self.facts;
         let thread = step.line.thread;
@@ -36,12 +36,12 @@ impl<S: Serializer> Scribe<'_, S> {
         self.put_line_number(statement)?;
         self.put_some("mutex", facts.wait_mutex_name(step))?;
         self.put("name", facts.thread_name(thread))?;
-        self.put_reading("new", step.new)?;
+        self.put_object_state("new", step.new)?;
         self.put_next_statement(thread, step.next)?;
         self.put("object", facts.object_name(step.object))?;
-        self.put_reading("old", step.old)?;
+        self.put_object_state("old", step.old)?;
         self.put("preempting", step.line.preempting)?;
-        self.put_assignments(thread, step.settings.as_slice())?;
+        self.put_assignments(thread, step.assignments.as_slice())?;
         self.put("step", at)?;
         self.put("stop", step.line.stop.map(stop_word))?;
         self.put("thread", thread)?;
@@ -49,7 +49,8 @@ impl<S: Serializer> Scribe<'_, S> {
         self.out.end_map()
     }
 
-    // Writes the objects that a step touched as they are after the step. No two objects share a name.
+    // Writes the object `after`: the states, after a step, of the objects that it touched, by name.
+    // No two objects share a name, so that a name is in one of the four maps.
     fn put_after(&mut self, step: &Step, objects: &ObjectStates<'_>) -> Written<S> {
         let touched = Some(self.facts.object_name(step.object));
         let beside = self.facts.wait_mutex_name(step);
@@ -65,19 +66,23 @@ impl<S: Serializer> Scribe<'_, S> {
         self.out.end_map()
     }
 
-    // Writes what an object was before or after a step.
-    fn put_reading(&mut self, key: &str, reading: Reading) -> Written<S> {
+    // Writes the state of an object before or after a step: a variable's value, the owner of a
+    // mutex or null, how many threads wait for a condition, or a semaphore's count.
+    fn put_object_state(&mut self, key: &str, reading: ObjectState) -> Written<S> {
         let facts = self.facts;
         match reading {
-            Reading::Value(value) => self.put(key, value),
-            Reading::Owner(owner) => self.put(key, owner.map(|thread| facts.thread_name(thread))),
-            Reading::Waiting(count) => self.put(key, count),
-            Reading::Count(count) => self.put(key, count),
+            ObjectState::Value(value) => self.put(key, value),
+            ObjectState::Owner(owner) => self.put(
+                key,
+                owner.map(|thread| facts.thread_name(thread)),
+            ),
+            ObjectState::Waiting(count) => self.put(key, count),
+            ObjectState::Count(count) => self.put(key, count),
         }
     }
 
-    /// Writes the statement that a thread has come to, with what that takes, or `null` at the end of the
-    /// code. A `wait` takes nothing when a thread comes to it.
+    /// Writes `next`: the statement that a thread has come to, with the mutex or the semaphore that
+    /// a `lock` or an `acquire` there `wants`, or null at the end of the thread's code.
     pub fn put_next_statement(&mut self, thread: u8, instruction: usize) -> Written<S> {
         let facts = self.facts;
         self.out.key("next")?;
@@ -95,15 +100,16 @@ impl<S: Serializer> Scribe<'_, S> {
         self.out.end_map()
     }
 
-    /// Writes the locals that a thread set, with their values and the statements that set them.
-    pub fn put_assignments(&mut self, thread: u8, settings: &[Setting]) -> Written<S> {
+    /// Writes the list `sets`: the locals that a thread set, in the order in which it did, each
+    /// with its value and the statement that set it.
+    pub fn put_assignments(&mut self, thread: u8, assignments: &[Assignment]) -> Written<S> {
         let facts = self.facts;
         self.begin_list("sets")?;
-        for setting in settings {
+        for assignment in assignments {
             self.out.begin_map(None)?;
-            self.put_place(facts.statement(thread, setting.instruction))?;
-            self.put("local", facts.local_name(thread, setting.local))?;
-            self.put("value", setting.value)?;
+            self.put_place(facts.statement(thread, assignment.instruction))?;
+            self.put("local", facts.local_name(thread, assignment.local))?;
+            self.put("value", assignment.value)?;
             self.out.end_map()?;
         }
         self.out.end_seq()

@@ -1,27 +1,27 @@
 //! The threads after the last step, what they wait for, and who could end the waits.
 
 use crate::facts::Facts;
-use crate::objects::Named;
-use crate::scribe::{Scribe, Written};
+use crate::objects::ByName;
 use crate::words::{reason_word, status_word};
-use explain::{Standing, Statement};
+use crate::writer::{Writer, Written};
+use explain::{Statement, ThreadState};
 use serde::Serializer;
 use std::alloc::AllocError;
 use std::collections::BTreeMap;
 use waits::{Fate, Wait};
 
-/// A statement that could end a wait, with the steps that carried the statement out, and whether the
-/// statement's thread may still come to it.
+/// A statement that could end a wait: whether its thread may still come to it, and the places of
+/// the steps that carried it out.
 #[derive(Drop)]
-struct Ender<'a> {
+struct UnblockingStatement<'a> {
     statement: Statement<'a>,
     ahead: bool,
     taken: Vec<usize>,
 }
 
 impl Facts<'_> {
-    // The locals of a thread, with their values.
-    fn locals(&self, thread: u8, standing: &Standing) -> Result<Named<'_, i64>, AllocError> {
+    // The values of a thread's locals at the end of what ran, by name.
+    fn locals(&self, thread: u8, standing: &ThreadState) -> Result<ByName<'_, i64>, AllocError> {
         let count = if thread < self.source.program.threads() {
             self.source.program.locals(thread)
         } else {
@@ -32,35 +32,38 @@ impl Facts<'_> {
         locals.collect(self.alloc)
     }
 
-    // The statements that could end a wait, by thread, line and column. What a `repeat` has in the code
-    // several times is one statement.
-    fn enders(&self, wait: &Wait) -> Result<BTreeMap<(u8, u32, u32), Ender<'_>>, AllocError> {
-        let mut enders = BTreeMap::new(self.alloc);
+    // The statements that could end a wait, by thread, line and column. A statement in a `repeat`
+    // is one, though the thread's code has it several times.
+    fn unblocking_statements(
+        &self,
+        wait: &Wait,
+    ) -> Result<BTreeMap<(u8, u32, u32), UnblockingStatement<'_>>, AllocError> {
+        let mut found = BTreeMap::new(self.alloc);
         for statement in &wait.statements {
             if let Some(place) = self.source.place(statement.thread, statement.instruction) {
-                let known = enders.entry((statement.thread, place.line, place.col))?;
-                let ender = known.or_insert(Ender {
+                let known = found.entry((statement.thread, place.line, place.col))?;
+                let entry = known.or_insert(UnblockingStatement {
                     statement: self.statement(statement.thread, statement.instruction),
                     ahead: false,
                     taken: Vec::new(self.alloc),
                 });
                 match statement.fate {
-                    Fate::Taken(step) => ender.taken.push(step)?,
-                    Fate::Ahead => ender.ahead = true,
+                    Fate::Taken(step) => entry.taken.push(step)?,
+                    Fate::Ahead => entry.ahead = true,
                     Fate::PassedBy => {}
                 }
             }
         }
-        Ok(enders)
+        Ok(found)
     }
 }
 
-impl<S: Serializer> Scribe<'_, S> {
-    /// Writes each thread after the last step.
+impl<S: Serializer> Writer<'_, S> {
+    /// Writes the list `threads`: an object for each thread as it is after the last step that ran.
     pub fn put_threads(&mut self) -> Written<S> {
         let facts = self.facts;
         self.begin_list("threads")?;
-        for (standing, thread) in facts.explanation.standings().iter().zip(0u8..) {
+        for (standing, thread) in facts.explanation.thread_states().iter().zip(0u8..) {
             self.out.begin_map(None)?;
             self.put_place(facts.statement(thread, standing.instruction))?;
             self.put_allocated("locals", facts.locals(thread, standing))?;
@@ -72,7 +75,9 @@ impl<S: Serializer> Scribe<'_, S> {
         self.out.end_seq()
     }
 
-    // Writes what a thread waits for, who owns that since which step, and who could end the wait.
+    // Writes `waits`, null without a wait: what a thread waits for, of a mutex who owns it and
+    // since which step, the threads that are waited for, and the statements that could end the
+    // wait.
     fn put_wait(&mut self, wait: Option<&Wait>) -> Written<S> {
         let facts = self.facts;
         self.out.key("waits")?;
@@ -85,24 +90,24 @@ impl<S: Serializer> Scribe<'_, S> {
         self.put("act", reason_word(wait.reason))?;
         self.put_some("holder", holder.map(|h| facts.thread_name(h.thread)))?;
         self.put("object", facts.object_name(wait.reason.object()))?;
-        self.put_allocated("on", facts.names_in(wait.on))?;
+        self.put_allocated("on", facts.thread_names_in(wait.on))?;
         self.put_some("since", holder.map(|holder| holder.since))?;
-        self.put_enders(wait)?;
+        self.put_unblocking_statements(wait)?;
         self.out.end_map()
     }
 
-    // Writes the statements that could end a wait.
-    fn put_enders(&mut self, wait: &Wait) -> Written<S> {
+    // Writes the list `statements`: those that could end a wait.
+    fn put_unblocking_statements(&mut self, wait: &Wait) -> Written<S> {
         let facts = self.facts;
-        let enders = self.allocated(facts.enders(wait))?;
+        let statements = self.allocated(facts.unblocking_statements(wait))?;
         self.begin_list("statements")?;
-        for ender in enders.values() {
+        for found in statements.values() {
             self.out.begin_map(None)?;
-            self.put("ahead", ender.ahead)?;
-            self.put_place(ender.statement)?;
-            self.put("name", facts.thread_name(ender.statement.thread))?;
-            self.put("taken", &ender.taken)?;
-            self.put_text(ender.statement)?;
+            self.put("ahead", found.ahead)?;
+            self.put_place(found.statement)?;
+            self.put("name", facts.thread_name(found.statement.thread))?;
+            self.put("taken", &found.taken)?;
+            self.put_text(found.statement)?;
             self.out.end_map()?;
         }
         self.out.end_seq()

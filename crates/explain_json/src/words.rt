@@ -1,6 +1,6 @@
-//! The words that the JSON of an explanation has for kinds of things.
+//! The words by which the JSON of an explanation tells how things are, such as `stuck` or `signal`.
 
-use explain::{Reason, Standing};
+use explain::{Reason, ThreadState};
 use replay::Act;
 use semantics::state::{Status, Stop};
 use semantics::view::Kind;
@@ -23,8 +23,8 @@ pub fn stop_word(stop: Stop) -> &'static str {
     }
 }
 
-/// The word for what became of a thread: whether it ended, stopped, is blocked or is enabled.
-pub fn status_word(standing: &Standing) -> &'static str {
+/// The word for how a thread is at the end of what ran: ended, stopped, blocked or enabled.
+pub fn status_word(standing: &ThreadState) -> &'static str {
     match standing.status {
         Status::Ended => "ended",
         Status::Stopped(_) => "stopped",
@@ -33,7 +33,7 @@ pub fn status_word(standing: &Standing) -> &'static str {
     }
 }
 
-/// The word for what a blocked thread is to do.
+/// The word for what a blocked thread waits to do; `signal` for one that waits for a condition.
 pub fn reason_word(reason: Reason) -> &'static str {
     match reason {
         Reason::Lock(_) => "lock",

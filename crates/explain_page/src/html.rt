@@ -1,4 +1,4 @@
-//! The explanation as a page.
+//! The explanation of a schedule as a page of HTML.
 
 use crate::page::{HEAD, PAGE_BEGIN, PAGE_END, SENTENCE_BEGIN, SENTENCE_END, SENTENCE_MIDDLE};
 use explain::{Explanation, Source};
@@ -6,13 +6,14 @@ use explain_json::page_json;
 use serde_json::Value;
 use std::alloc::{AllocError, Global};
 
-// How many digits a number may have, its sign counted, so that a script certainly keeps each.
+// The most bytes of a number, its sign counted, such that a script, whose numbers have 53 bits,
+// keeps each digit.
 const SAFE_DIGITS: usize = 15;
 
-/// The explanation as a page: one file, which asks no network. Its data is the JSON of the
+/// The explanation as a page: one file, which loads nothing else. Its data is the JSON of the
 /// explanation with the text of the guest, which its script draws. `search` is the report of the
-/// search that found the schedule, if one did: the page shows how its schedules end. `why` says in words
-/// how the schedule ends and why, and its last line is the command that replays the schedule.
+/// search that found the schedule, if one did: the page shows how its schedules end. `why` says in
+/// words how the schedule ends and why, and its last line is the command that replays the schedule.
 ///
 /// # Errors
 ///
@@ -27,7 +28,7 @@ pub fn explanation_html<'a>(
     let data = page_json(alloc, explanation, source, search, why)?;
     let mut page = Vec::from_slice(alloc, HEAD.as_bytes())?;
     page.extend_from_slice(PAGE_BEGIN.as_bytes())?;
-    put_data(&mut page, alloc, data.as_slice())?;
+    put_json(&mut page, alloc, data.as_slice())?;
     page.extend_from_slice(PAGE_END.as_bytes())?;
     Ok(page)
 }
@@ -47,7 +48,8 @@ pub fn no_schedule_html(alloc: Global, file: &str, sentence: &str) -> Result<Vec
     Ok(page)
 }
 
-// Adds words as text inside an element, escaped so that nothing in the words ends the element.
+// Adds words as the text of an element. Each `<` and `&` is escaped, so that a browser shows the
+// words as they are.
 fn put_escaped(page: &mut Vec<u8>, words: &str) -> Result<(), AllocError> {
     for byte in words.as_bytes() {
         match *byte {
@@ -59,9 +61,9 @@ fn put_escaped(page: &mut Vec<u8>, words: &str) -> Result<(), AllocError> {
     Ok(())
 }
 
-// Adds JSON inside a script element, so that nothing in the JSON ends the element, and no number is
-// one that a script would round.
-fn put_data(page: &mut Vec<u8>, alloc: Global, data: &[u8]) -> Result<(), AllocError> {
+// Adds JSON as the text of a script element. Each `<` is escaped, so that nothing in the JSON ends
+// the element, and each number that a script would round is put in quotes.
+fn put_json(page: &mut Vec<u8>, alloc: Global, data: &[u8]) -> Result<(), AllocError> {
     let mut number = Vec::new(alloc);
     let mut is_text = false;
     let mut is_escaped = false;
@@ -82,7 +84,8 @@ fn put_data(page: &mut Vec<u8>, alloc: Global, data: &[u8]) -> Result<(), AllocE
     Ok(())
 }
 
-// Adds a number, in quotes where it has more digits than a script certainly keeps.
+// Adds the bytes of a number, in quotes where a script might not keep all of its digits. Nothing is
+// added where there are no bytes.
 fn put_number(page: &mut Vec<u8>, number: &[u8]) -> Result<(), AllocError> {
     let quote = if number.len() > SAFE_DIGITS { "\"" } else { "" };
     page.extend_from_slice(quote.as_bytes())?;

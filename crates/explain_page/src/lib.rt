@@ -1,4 +1,4 @@
-//! The explanation of a schedule for browsers: a page whose script draws the JSON of the explanation.
+//! The explanation of a schedule for browsers: a page whose script draws the explanation's JSON.
 #![tactic(auto)]
 
 mod html;

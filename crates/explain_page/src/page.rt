@@ -1,4 +1,5 @@
-//! The templates of the pages: all but the data, or the sentence that is told.
+//! The fixed parts of the pages: of the page of an explanation all but its data; of the page that
+//! no bad schedule was found all but the name of the file and the sentence that says so.
 
 /// The beginning of each page, up to the title or the style.
 pub const HEAD: &str = r##"<!DOCTYPE html>
@@ -161,7 +162,7 @@ const label = (s) => told(s) + (s.stop === null ? "" : "  FAILED: " + s.stop);
 const row = 22, left = 60, lanes = [];
 const xOf = (t) => lanes[t], yOf = (k) => k * row + row / 2;
 let wide = left;
-// Where each step read what another thread wrote, and each thread took its mutex again after it was woken.
+// Where a step read what another thread wrote, or a thread took its mutex again after it was woken.
 function arrows() {
   const wrote = byName(), called = byName(), found = [];
   steps.forEach((s, k) => {

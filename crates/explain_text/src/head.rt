@@ -1,4 +1,4 @@
-//! How a schedule ended.
+//! The head of the text: how a schedule ended, and why a thread failed.
 
 use crate::origins::ValueLayout;
 use crate::text::TextWriter;
@@ -9,12 +9,12 @@ use semantics::view::Kind;
 use std::alloc::AllocError;
 use text_lines::{Count, Page};
 
-/// The column from which on it is said why a thread failed.
+/// The column at which a line begins that says why a thread failed.
 const REASON_INDENT: usize = 4;
-/// The column from which on the further lines of a long line stand.
+/// The column at which what doesn't fit into a line goes on in the next one.
 const INDENT: usize = 8;
 
-/// How the values of an assertion that failed are shown.
+/// How the values of the locals of an assertion that failed are shown.
 const VALUE_LAYOUT: ValueLayout = ValueLayout {
     indent: REASON_INDENT,
     most_values: 8,
@@ -22,12 +22,13 @@ const VALUE_LAYOUT: ValueLayout = ValueLayout {
 };
 
 impl TextWriter<'_> {
-    /// Writes how the schedule ended, and after how many steps.
+    /// Writes how the schedule ended and after how many steps and preemptions; where a thread
+    /// failed, also at which statement and why.
     pub fn put_head(&self, page: &mut Page) -> Result<(), AllocError> {
         if let Some(failure) = self.causes.failure()
             && let Some(event) = self.event(failure.event)
         {
-            return self.put_stop(page, failure, event);
+            return self.put_failure(page, failure, event);
         }
         let ending = match self.explanation.kind() {
             Some(Kind::Stuck) => "STUCK",
@@ -41,7 +42,9 @@ impl TextWriter<'_> {
         page.put_line(head.as_str(), INDENT)
     }
 
-    // The file whose lines are told without its name; where there is none, the file that was read.
+    // The name of the file that the guest's lines come from, by a preprocessor's marks if it has
+    // any; where they come from several files, or no thread has a statement, of the file that was
+    // read.
     fn main_file_name(&self) -> &str {
         (0..self.source.program.threads())
             .map(|thread| self.line(thread, 0))
@@ -49,8 +52,8 @@ impl TextWriter<'_> {
             .map_or(self.file_name(), |line| line.file)
     }
 
-    // After how many steps and preemptions the schedule ended, and that no schedule with fewer
-    // preemptions is bad, where a search showed that.
+    // As text, after how many steps and preemptions the schedule ended, and, where a search showed
+    // it, that no schedule with fewer preemptions is bad.
     fn counts_text(&self, steps: usize, preemptions: usize) -> Result<String, AllocError> {
         let least = match self.explanation.preemptions() {
             1 if self.layout.is_fewest => " No schedule with 0 is bad.",
@@ -61,9 +64,15 @@ impl TextWriter<'_> {
         format!(in self.alloc; "after {steps} with {preemptions}.{least}")
     }
 
-    // Writes what failed by this event, where, and why.
-    fn put_stop(&self, page: &mut Page, failure: Failure, event: Event) -> Result<(), AllocError> {
-        let site = self.site_of(&event);
+    // Writes which statement of which thread failed, after how many steps and preemptions, and why:
+    // of an assertion where its values came from, of an `unlock` or a `wait` who owned the mutex.
+    fn put_failure(
+        &self,
+        page: &mut Page,
+        failure: Failure,
+        event: Event,
+    ) -> Result<(), AllocError> {
+        let site = self.event_site(&event);
         let steps = failure.step.map_or(0, |at| at.saturating_add(1));
         let counts = self.counts_text(steps, failure.preemptions)?;
         let head = format!(in self.alloc;
@@ -87,7 +96,8 @@ impl TextWriter<'_> {
         page.put_indented(words.as_str(), REASON_INDENT, INDENT)
     }
 
-    // Who owned a mutex before the event at a place, and since which step, if a thread did.
+    // The thread that owned a mutex before the event at a place of the run, and since which step;
+    // `None` where the mutex was free.
     fn holder_before(&self, at: usize, mutex: usize) -> Option<Holder> {
         let event = self.event(self.causes.taker(at, mutex)?)?;
         Some(Holder {

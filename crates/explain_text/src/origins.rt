@@ -2,18 +2,18 @@
 
 use crate::text::TextWriter;
 use causes::Event;
-use explain::{Object, Reading};
+use explain::{Object, ObjectState};
 use guest_code::program::{Expression, Instruction, Value};
 use std::alloc::AllocError;
 use text_lines::Page;
 
-/// By how many columns the locals that a value was made of stand further to the right than the value.
+/// How many columns further to the right the locals are shown of which a value was computed.
 const NESTING: usize = 2;
-/// By how many columns the further lines of a long line stand further to the right.
+/// How many columns further to the right what doesn't fit into a line goes on in the next one.
 const INDENT: usize = 4;
 
-/// How values are shown: from which column on, how many at most, and whether it is told who changed a
-/// variable after a value was read from there.
+/// How values are shown: from which column on, how many at most, and whether it is told who changed
+/// a variable after its value was read.
 #[derive(Clone, Copy)]
 pub struct ValueLayout {
     pub indent: usize,
@@ -21,7 +21,8 @@ pub struct ValueLayout {
     pub is_later_change_told: bool,
 }
 
-// A local that is still to be told, with its value before the event at a place, from a column on.
+// A local that is still to be shown, `indent` columns from the left, with the value that it had
+// before the event at place `at` of the run.
 #[derive(Clone, Copy)]
 struct PendingLocal {
     at: usize,
@@ -30,8 +31,9 @@ struct PendingLocal {
 }
 
 impl TextWriter<'_> {
-    /// Writes the locals of the expression of the event at a place, each with where its value came
-    /// from, and under a local that was set by an expression the locals of that expression.
+    /// Writes the locals of an expression, which the event at a place evaluates, each with its
+    /// value and where that came from; under a local that a `set` computed, the locals of that
+    /// `set`.
     pub fn put_values(
         &self,
         page: &mut Page,
@@ -59,12 +61,13 @@ impl TextWriter<'_> {
         Ok(())
     }
 
-    // The event at a place, where there is a place, with the place itself first.
+    // The event at a place, after the place itself; `None` where no place is given.
     fn event_with_place(&self, at: Option<usize>) -> Option<(usize, Event)> {
         Some((at?, self.event(at?)?))
     }
 
-    // A local with its value, and where the value came from: `setting` is the event that set the local.
+    // As text, a local, its value, and where the value came from: `setting` is the event that set
+    // the local, with its place; `None` where the local still is 0 as at the start.
     fn value_origin(
         &self,
         name: &str,
@@ -74,7 +77,11 @@ impl TextWriter<'_> {
         let Some((at, event)) = setting else {
             return format!(in self.alloc; "{name} = 0   from the start");
         };
-        let (value, step, site) = (event.value(), event.step.unwrap_or(0), self.site_of(&event));
+        let (value, step, site) = (
+            event.value(),
+            event.step.unwrap_or(0),
+            self.event_site(&event),
+        );
         let mut words = format!(in self.alloc; "{name} = {value}   ")?;
         let Some(variable) = event.variable_read() else {
             write!(words, "set in {site}")?;
@@ -99,14 +106,15 @@ impl TextWriter<'_> {
         Ok(words)
     }
 
-    // Who wrote a variable last before the event at a place read it, and what the variable was before.
+    // As text, who wrote a variable last before thread `reader` read it, in the event at a place,
+    // and what its value was before that write.
     fn last_write(&self, reader: u8, at: usize, variable: usize) -> Result<String, AllocError> {
         let Some((at, event)) = self.event_with_place(self.causes.writer(at, variable)) else {
             return ", which nobody had written before".to_string(self.alloc);
         };
         let is_own = reader == event.thread;
         let itself = if is_own { " itself" } else { "" };
-        let (step, site) = (event.step.unwrap_or(0), self.site_of(&event));
+        let (step, site) = (event.step.unwrap_or(0), self.event_site(&event));
         let (name, x) = (site.name, self.object_name(Object::Variable(variable)));
         let (old, _) = self.old_and_new(&event);
         let since = match self.event_with_place(self.causes.writer(at, variable)) {
@@ -118,13 +126,14 @@ impl TextWriter<'_> {
         )
     }
 
-    // Since which step a variable has what an event wrote, and who was interrupted before that step.
+    // As text, since which step a variable has the value that an event wrote, and which thread was
+    // preempted before that step, if one was.
     fn since_step(&self, event: &Event) -> Result<String, AllocError> {
-        let (step, site) = (event.step.unwrap_or(0), self.site_of(event));
+        let (step, site) = (event.step.unwrap_or(0), self.event_site(event));
         let (name, line) = (site.name, site.line);
         let mut words = format!(in self.alloc; " since step {step} ({name}, {line})")?;
         if let Some(before) = step.checked_sub(1)
-            && self.is_interrupted(before)
+            && self.is_preempted_after(before)
             && let Some(other) = self.thread_at(before)
         {
             write!(words, ", where {} was interrupted", self.thread_name(other))?;
@@ -132,7 +141,8 @@ impl TextWriter<'_> {
         Ok(words)
     }
 
-    // Which thread but the reader changed a variable first after the event at a place, if one did.
+    // As text, which thread but the reader changed a variable first after the event at a place, and
+    // to what value; empty where none did.
     fn later_change(&self, reader: u8, at: usize, variable: usize) -> Result<String, AllocError> {
         let mut later = self.causes.events().iter().skip(at);
         let next = later.find(|event| event.variable_written() == Some(variable)
@@ -152,17 +162,18 @@ impl TextWriter<'_> {
         old != new
     }
 
-    // The values that the variable of an event's step had before and after that step.
+    // The values of an event's variable before and after its step; zeros where it has no such step.
     fn old_and_new(&self, event: &Event) -> (i64, i64) {
         let step = event.step.and_then(|at| self.step(at));
         match step.map(|step| (step.old, step.new)) {
-            Some((Reading::Value(old), Reading::Value(new))) => (old, new),
+            Some((ObjectState::Value(old), ObjectState::Value(new))) => (old, new),
             _ => (0, 0),
         }
     }
 }
 
-// Pushes the locals of the expression of an event, so that the first local is popped first.
+// Pushes the locals of an expression, which the event at a place evaluates, so that the first local
+// is popped first; a local that is there twice is pushed once.
 fn push_locals(
     stack: &mut Vec<PendingLocal>,
     at: usize,

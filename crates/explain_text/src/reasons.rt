@@ -1,4 +1,6 @@
 //! Why threads can't go on.
+//!
+//! A circle is a set of threads each of which waits, through others if need be, for each of them.
 
 use crate::text::{TextWriter, push_word};
 use explain::{Holder, Object, Reason};
@@ -10,15 +12,15 @@ use std::alloc::AllocError;
 use text_lines::{Page, width_of};
 use waits::Wait;
 
-/// Columns of the widest mark that a thread of a circle has.
+/// Columns of the widest mark beside a thread that is in a circle.
 const MARK_WIDTH: usize = 9;
-/// Columns before the names of the blocked threads and between their columns, together.
+/// Blanks in the row of a blocked thread: before its name and between the columns, together.
 const GAPS_WIDTH: usize = 10;
-/// The column from which on the further lines of a long line stand.
+/// The column at which what doesn't fit into a line goes on in the next one.
 const INDENT: usize = 6;
 
-// Columns of the names of the blocked threads, of where these are, and of the reasons of the threads
-// that are in a circle.
+// How wide the columns of the table of the blocked threads are: of their names, of their places,
+// and of the reasons why those that are in circles can't go on, beside which marks stand.
 #[derive(Clone, Copy, Default)]
 struct Widths {
     name: usize,
@@ -27,8 +29,9 @@ struct Widths {
 }
 
 impl TextWriter<'_> {
-    /// Writes why nobody can go on, or who is blocked where a thread failed; and why the next step of
-    /// the schedule can't be taken.
+    /// Where the schedule is stuck or a thread failed, writes for each blocked thread why it can't
+    /// go on, and who could end the waits. Then writes why the schedule's next step can't be taken,
+    /// where it can't.
     pub fn put_reasons(&self, page: &mut Page) -> Result<(), AllocError> {
         let title = match self.explanation.kind() {
             Some(Kind::Stuck) => Some("Why nobody can go on"),
@@ -39,26 +42,28 @@ impl TextWriter<'_> {
             && !self.waits.all().is_empty()
         {
             page.put_line(title, 0)?;
-            self.put_blocked(page)?;
-            page.put_blank()?;
-            self.put_enders(page)?;
+            self.put_blocked_threads(page)?;
+            page.put_empty_line()?;
+            self.put_unblocking(page)?;
         }
-        self.put_next_step(page)
+        self.put_continuation(page)
     }
 
-    // Writes the blocked threads, circle by circle, and then the threads that are in no circle.
-    fn put_blocked(&self, page: &mut Page) -> Result<(), AllocError> {
+    // Writes a row for each blocked thread: circle by circle those that wait for one another, then
+    // the threads that are in no circle.
+    fn put_blocked_threads(&self, page: &mut Page) -> Result<(), AllocError> {
         let widths = self.widths()?;
         for circle in self.waits.circles() {
             self.put_circle(page, *circle, widths)?;
         }
         for wait in self.waits.all().iter().filter(|wait| wait.is_circle_free()) {
-            self.put_wait(page, wait, "", widths)?;
+            self.put_wait_row(page, wait, "", widths)?;
         }
         Ok(())
     }
 
-    // Writes the threads of a circle, with a mark beside each, or, where marks don't fit, a line below.
+    // Writes a row for each thread of a circle, of threads that wait for one another. A mark beside
+    // each shows that; where rows with marks are too wide, a line below them says it.
     fn put_circle(&self, page: &mut Page, circle: Mask, widths: Widths) -> Result<(), AllocError> {
         let columns = widths.name.saturating_add(widths.place);
         let columns = columns.saturating_add(widths.reason);
@@ -70,8 +75,12 @@ impl TextWriter<'_> {
         let mut names = String::new(self.alloc);
         let length = members.len();
         for (at, wait) in members.iter().enumerate() {
-            let mark = if is_marked { mark_of(at, length) } else { "" };
-            self.put_wait(page, wait, mark, widths)?;
+            let mark = if is_marked {
+                circle_mark(at, length)
+            } else {
+                ""
+            };
+            self.put_wait_row(page, wait, mark, widths)?;
             push_word(&mut names, self.thread_name(wait.thread))?;
         }
         if is_marked {
@@ -84,8 +93,9 @@ impl TextWriter<'_> {
         page.put_line(words.as_str(), INDENT)
     }
 
-    // Writes the row of a blocked thread: why it can't go on, and its mark where it is in a circle.
-    fn put_wait(
+    // Writes the row of a blocked thread: its name, its statement, why it can't go on, and `mark`,
+    // which is empty where the thread is in no circle or marks don't fit.
+    fn put_wait_row(
         &self,
         page: &mut Page,
         wait: &Wait,
@@ -93,45 +103,47 @@ impl TextWriter<'_> {
         widths: Widths,
     ) -> Result<(), AllocError> {
         let (name, place) = (self.thread_name(wait.thread), self.blocked_site(wait)?);
-        let reason = self.reason(wait)?;
+        let reason = self.reason_text(wait)?;
         let (n, p, r) = (widths.name, widths.place, widths.reason);
         let row = format!(in self.alloc; "  {name:<n$}  {place:<p$}   {reason:<r$}   {mark}")?;
         page.put_line(row.as_str(), INDENT)
     }
 
-    /// What a blocked thread waits to do: its statement, or to take its mutex again.
+    /// As text, what a blocked thread waits to do: its statement, or `retake` and the mutex where
+    /// it was woken.
     pub fn blocked_action(&self, wait: &Wait) -> Result<String, AllocError> {
         let retakes = matches!(wait.reason, Reason::Retake(_));
         self.action_text(wait.thread, self.instruction_at_end(wait.thread), retakes)
     }
 
-    /// The line and the statement at which a blocked thread is.
+    /// As text, the line at which a blocked thread is, and what it waits to do there.
     pub fn blocked_site(&self, wait: &Wait) -> Result<String, AllocError> {
         let (line, action) = (self.line_at_end(wait.thread), self.blocked_action(wait)?);
         format!(in self.alloc; "at {line}: {action}")
     }
 
-    // How wide the columns of the table of the blocked threads are.
+    // How wide the columns have to be for the rows of all blocked threads.
     fn widths(&self) -> Result<Widths, AllocError> {
         let mut widths = Widths::default();
         for wait in self.waits.all() {
             widths.name = width_of(self.thread_name(wait.thread)).max(widths.name);
             widths.place = width_of(self.blocked_site(wait)?.as_str()).max(widths.place);
             if !wait.is_circle_free() {
-                widths.reason = width_of(self.reason(wait)?.as_str()).max(widths.reason);
+                widths.reason = width_of(self.reason_text(wait)?.as_str()).max(widths.reason);
             }
         }
         Ok(widths)
     }
 
-    // Why a blocked thread can't go on.
-    fn reason(&self, wait: &Wait) -> Result<String, AllocError> {
+    // As text, why a blocked thread can't go on: who owns its mutex, who took the semaphore's last
+    // one, or since which step it waits for a condition.
+    fn reason_text(&self, wait: &Wait) -> Result<String, AllocError> {
         let name = self.object_name(wait.reason.object());
         match wait.reason {
             Reason::Lock(m) | Reason::Retake(m) => {
                 let holder = self.explanation.holder(m);
                 let mut words = self.holder_text(m, holder)?;
-                words.push_str(self.holder_ending(holder))?;
+                words.push_str(self.holder_end_text(holder))?;
                 Ok(words)
             }
             Reason::Acquire(k) => {
@@ -151,7 +163,7 @@ impl TextWriter<'_> {
         }
     }
 
-    /// Who owns a mutex, if a thread does, and since when.
+    /// As text, that a mutex is held, by whom and since which step, or, without a holder, is free.
     pub fn holder_text(&self, mutex: usize, holder: Option<Holder>) -> Result<String, AllocError> {
         let name = self.object_name(Object::Mutex(mutex));
         let Some(Holder { thread, since }) = holder else {
@@ -163,9 +175,10 @@ impl TextWriter<'_> {
         format!(in self.alloc; "{name} is held by {owner} (since step {since}, {line})")
     }
 
-    // That the holder of a mutex ended or stopped and owns the mutex still, where that is so.
-    fn holder_ending(&self, holder: Option<Holder>) -> &'static str {
-        let standing = holder.and_then(|holder| self.explanation.standing(holder.thread));
+    // As text, that the holder of a mutex has ended or stopped and still owns it; empty where that
+    // isn't so, or nobody holds the mutex.
+    fn holder_end_text(&self, holder: Option<Holder>) -> &'static str {
+        let standing = holder.and_then(|holder| self.explanation.thread_state(holder.thread));
         match standing.map(|standing| standing.status) {
             Some(Status::Ended) => ", which ended and owns it still",
             Some(Status::Stopped(_)) => ", which stopped and owns it still",
@@ -173,12 +186,13 @@ impl TextWriter<'_> {
         }
     }
 
-    // Writes why the next step of the schedule can't be taken, and who could go on.
-    fn put_next_step(&self, page: &mut Page) -> Result<(), AllocError> {
+    // Writes why the schedule's next step can't be taken, where it can't, and which threads could
+    // take one, where the schedule that ran isn't complete.
+    fn put_continuation(&self, page: &mut Page) -> Result<(), AllocError> {
         let kind = self.explanation.kind();
         let mut words = String::new(self.alloc);
         if let Some(thread) = self.explanation.refused() {
-            self.put_refused(&mut words, thread)?;
+            self.put_refused_step(&mut words, thread)?;
             words.push_str(match kind {
                 Some(Kind::Stuck) => " Nobody can go on.",
                 Some(_) => " The run was over before it.",
@@ -192,14 +206,14 @@ impl TextWriter<'_> {
             return Ok(());
         }
         page.put_line(words.as_str(), 2)?;
-        page.put_blank()
+        page.put_empty_line()
     }
 
-    // Adds which threads could go on.
+    // Adds to `words` which threads are enabled at the end, by name and number.
     fn put_enabled(&self, words: &mut String) -> Result<(), AllocError> {
         let mut names = String::new(self.alloc);
         for t in 0..self.source.program.threads() {
-            let standing = self.explanation.standing(t);
+            let standing = self.explanation.thread_state(t);
             if standing.is_some_and(|standing| standing.is_enabled()) {
                 push_word(&mut names, format_args!("{} ({t})", self.thread_name(t)))?;
             }
@@ -207,17 +221,17 @@ impl TextWriter<'_> {
         write!(words, "Could go on: {names}")
     }
 
-    // Adds why the step of this thread, which comes next in the schedule, can't be taken.
-    fn put_refused(&self, words: &mut String, thread: u8) -> Result<(), AllocError> {
+    // Adds to `words` why the schedule's next step, which is this thread's, can't be taken.
+    fn put_refused_step(&self, words: &mut String, thread: u8) -> Result<(), AllocError> {
         let at = self.explanation.steps().len();
         write!(words, "Step {at} can't be taken: ")?;
-        let Some(standing) = self.explanation.standing(thread) else {
+        let Some(standing) = self.explanation.thread_state(thread) else {
             return write!(words, "there is no thread {thread}.");
         };
         write!(words, "{thread} {}", self.thread_name(thread))?;
         match (self.waits.of(thread), standing.is_stopped()) {
             (Some(wait), _) => {
-                let (blocked, why) = (self.blocked_site(wait)?, self.reason(wait)?);
+                let (blocked, why) = (self.blocked_site(wait)?, self.reason_text(wait)?);
                 write!(words, " is blocked {blocked}; {why}.")
             }
             (None, true) => words.push_str(" has stopped."),
@@ -226,8 +240,10 @@ impl TextWriter<'_> {
     }
 }
 
-// The mark of a thread in a circle of `length` threads, by its place among them.
-fn mark_of(place: usize, length: usize) -> &'static str {
+// The mark beside a thread in a circle of `length` threads, by its place among them: together the
+// marks are a bracket, with the word `circle` at its top; a thread that waits for itself has
+// `itself`.
+fn circle_mark(place: usize, length: usize) -> &'static str {
     match (place, length.saturating_sub(place)) {
         (0, 1) => "itself",
         (0, _) => "\\  circle",

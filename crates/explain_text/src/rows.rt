@@ -1,40 +1,44 @@
 //! The rows of the table of the steps.
 
 use crate::text::{TextWriter, push_word};
-use explain::{Object, Reading, Standing, Step, op_text};
+use explain::{Object, ObjectState, Step, ThreadState, op_text};
 use guest_code::program::{Expression, Instruction, Value};
 use replay::Act;
 use semantics::state::Stop;
 use semantics::view::Kind;
 use std::alloc::AllocError;
 use text_lines::{
-    COLUMN, Count, GAP, InLine, Page, STEP, line_cell, pad_to, put_cut, put_times, width_of,
+    COLUMN, Count, GAP, InLine, Page, STEP, line_cell, pad_to, put_repeated, put_truncated,
+    width_of,
 };
 
-/// The fewest columns to which a thread's name is cut before its statement, in a column that is shared.
+/// In a column that several threads share, the fewest columns that are left of a thread's name,
+/// which comes before its statement.
 const SHORTEST_LABEL: usize = 4;
 
 impl TextWriter<'_> {
-    /// Writes the table of the steps. The answer is how many steps have rows of their own.
+    /// Writes the table of the steps. The answer is how many steps have rows of their own; in a
+    /// long table, steps that matter less share rows.
     pub fn put_table(&self, page: &mut Page) -> Result<usize, AllocError> {
         self.put_header(page)?;
-        self.put_opening_stops(page)?;
+        self.put_initial_stops(page)?;
         let steps = self.explanation.steps().len();
         let mut folded = 0_usize;
         let mut next = 0;
         for at in 0..steps {
             if steps <= self.layout.steps || self.has_own_row(at) {
-                folded = folded.saturating_add(self.put_folded(page, next, at)?);
+                folded = folded.saturating_add(self.put_folded_steps(page, next, at)?);
                 self.put_step_rows(page, at)?;
                 next = at + 1;
             }
         }
-        folded = folded.saturating_add(self.put_folded(page, next, steps)?);
+        folded = folded.saturating_add(self.put_folded_steps(page, next, steps)?);
         self.put_end_rows(page)?;
         Ok(steps.saturating_sub(folded))
     }
 
-    /// How wide the widest line number is that the table tells with the name of a file; 0 if none is.
+    /// The width, in columns, of the table's widest cell that has a line with the name of its file,
+    /// as `worker.inc:12`; 0 where no line is printed with the name of its file.
     pub fn line_cell_width(&self) -> Result<usize, AllocError> {
         let steps = self.explanation.steps().iter();
         let threads = 0..self.source.program.threads();
@@ -51,31 +55,35 @@ impl TextWriter<'_> {
         Ok(widest)
     }
 
-    /// The number of the thread that took the step at a place, if that step ran.
+    /// The number of the thread that took the step at a place of the schedule; `None` if none ran
+    /// there.
     pub fn thread_at(&self, at: usize) -> Option<u8> {
         self.step(at).map(|step| step.line.thread)
     }
 
-    /// Whether the thread of the step at a place is interrupted after that step.
-    pub fn is_interrupted(&self, at: usize) -> bool {
+    /// Whether the thread of the step at a place is preempted after it: another thread takes the
+    /// next step, while this one is still enabled.
+    pub fn is_preempted_after(&self, at: usize) -> bool {
         let next = self.step(at.saturating_add(1));
         next.is_some_and(|next| next.line.preempting)
     }
 
-    // Whether the step at a place is in the cause of how the schedule ended.
+    // Whether the step at a place, or what its thread did by itself after it, is in the cause of
+    // how the schedule ended; false where no step ran there.
     fn is_in_cause(&self, at: usize) -> bool {
         self.causes.steps().get(at).copied().unwrap_or(false)
     }
 
-    // Whether a step has a row of its own where steps are folded: where it is in the cause, the first
-    // step after a switch, or beside a preemption.
+    // Whether the step at a place has a row of its own where other steps share rows: it is in the
+    // cause of how the schedule ended, its thread is preempted after it, or another thread took the
+    // step before it.
     fn has_own_row(&self, at: usize) -> bool {
         self.is_in_cause(at)
-            || self.is_interrupted(at)
+            || self.is_preempted_after(at)
             || self.thread_at(at.saturating_sub(1)) != self.thread_at(at)
     }
 
-    // Writes the names of the columns, and a rule under each name.
+    // Writes the names of the columns, and a line of dashes under each name.
     fn put_header(&self, page: &mut Page) -> Result<(), AllocError> {
         let columns = self.columns;
         let mut header = Header {
@@ -86,7 +94,7 @@ impl TextWriter<'_> {
         header.put_column(STEP, columns.margin.saturating_sub(STEP + GAP), "line")?;
         for t in (0..self.source.program.threads()).take(columns.own) {
             let mut name = String::new(self.alloc);
-            put_cut(&mut name, self.thread_name(t), COLUMN)?;
+            put_truncated(&mut name, self.thread_name(t), COLUMN)?;
             header.put_column(columns.start(t as usize), COLUMN, name.as_str())?;
         }
         if columns.is_shared {
@@ -99,14 +107,14 @@ impl TextWriter<'_> {
         }
         let rest = columns.width.saturating_sub(columns.changes);
         header.put_column(columns.changes, rest, "what changed")?;
-        page.put_whole(header.names.as_str())?;
-        page.put_whole(header.rules.as_str())
+        page.put_unwrapped(header.names.as_str())?;
+        page.put_unwrapped(header.rules.as_str())
     }
 
-    // Writes a row for each thread that stopped before its first step.
-    fn put_opening_stops(&self, page: &mut Page) -> Result<(), AllocError> {
+    // Writes a row for each thread that an assertion stopped before its first step.
+    fn put_initial_stops(&self, page: &mut Page) -> Result<(), AllocError> {
         for t in 0..self.source.program.threads() {
-            let start = self.explanation.opening().get(t as usize);
+            let start = self.explanation.starts().get(t as usize);
             if start.is_some_and(|start| start.stop.is_some()) {
                 self.put_stop_row(page, String::from_str(self.alloc, "start")?, t)?;
             }
@@ -114,9 +122,15 @@ impl TextWriter<'_> {
         Ok(())
     }
 
-    // Writes one row for the steps of the places `from..to`, which are of one thread, or, where that is
-    // a single step, the step's own rows. The answer is how many steps are folded.
-    fn put_folded(&self, page: &mut Page, from: usize, to: usize) -> Result<usize, AllocError> {
+    // Writes one row for the steps of the places `from..to`, which are of one thread, or, where
+    // that is a single step, the step's own rows. The answer is how many steps share a row: 0 where
+    // there is at most one.
+    fn put_folded_steps(
+        &self,
+        page: &mut Page,
+        from: usize,
+        to: usize,
+    ) -> Result<usize, AllocError> {
         let steps = self.explanation.steps().get(from..to).unwrap_or(&[]);
         let [first, .., _] = steps else {
             if from < to {
@@ -128,12 +142,12 @@ impl TextWriter<'_> {
         let mut row = format!(in self.alloc; "{from}-{last}")?;
         pad_to(&mut row, self.columns.start(0))?;
         let cell = format!(in self.alloc; ".. {} of {name} ..", Count(steps.len(), "step"))?;
-        self.put_fitting(&mut row, cell.as_str())?;
+        self.put_clipped(&mut row, cell.as_str())?;
         self.put_row(page, row.as_str(), self.values_after(steps)?.as_str())?;
         Ok(steps.len())
     }
 
-    // The variables that these steps change, each with its value after the last of the steps.
+    // As text, the variables that these steps change, each with its value after the last of them.
     fn values_after(&self, steps: &[Step]) -> Result<String, AllocError> {
         let mut changes = String::new(self.alloc);
         for x in 0..self.source.program.variables() as usize {
@@ -141,7 +155,7 @@ impl TextWriter<'_> {
             let steps = steps.iter();
             let writes = steps.filter(|step| step.object == x && step.old != step.new);
             if let Some(step) = writes.last()
-                && let Reading::Value(value) = step.new
+                && let ObjectState::Value(value) = step.new
             {
                 let name = self.object_name(x);
                 push_word(&mut changes, format_args!("{name} {value}"))?;
@@ -151,18 +165,19 @@ impl TextWriter<'_> {
     }
 
     // Adds words to a row, cut off where the columns of the threads end.
-    fn put_fitting(&self, row: &mut String, words: &str) -> Result<(), AllocError> {
+    fn put_clipped(&self, row: &mut String, words: &str) -> Result<(), AllocError> {
         let room = self.columns.end().saturating_sub(width_of(row.as_str()));
-        put_cut(row, words, room)
+        put_truncated(row, words, room)
     }
 
-    // Writes a row, and in its last column what changed.
+    // Writes a row, and in its last column `changes`, in further lines where they don't fit.
     fn put_row(&self, page: &mut Page, row: &str, changes: &str) -> Result<(), AllocError> {
         page.put_columns(row, changes, self.columns.changes, self.columns.changes)
     }
 
-    // Adds to the beginning of a row the line of an instruction, and what its thread does there. Where
-    // threads share a column, the thread's name comes before that, cut off so far that both fit.
+    // Adds to a row, which has only its first column, the line of an instruction and, in the column
+    // of its thread, `action`, which says what the thread does there. Where the column is shared,
+    // the thread's name comes before `action`, cut off so far that both fit.
     fn put_action(
         &self,
         row: &mut String,
@@ -178,14 +193,19 @@ impl TextWriter<'_> {
         if thread as usize >= self.columns.own {
             let room = self.columns.end().saturating_sub(width_of(row.as_str()));
             let rest = room.saturating_sub(width_of(action).saturating_add(2));
-            self.put_label(row, thread, rest.max(SHORTEST_LABEL))?;
+            self.put_thread_label(row, thread, rest.max(SHORTEST_LABEL))?;
         }
-        self.put_fitting(row, action)
+        self.put_clipped(row, action)
     }
 
-    // Adds the name of a thread, or, where the name has more columns than `room`, its beginning, or
-    // the thread's number where the name of another thread begins alike.
-    fn put_label(&self, row: &mut String, thread: u8, room: usize) -> Result<(), AllocError> {
+    // Adds the name of a thread and a colon. Of a name with more columns than `room` it adds only
+    // the beginning, or the thread's number where the name of another thread begins alike.
+    fn put_thread_label(
+        &self,
+        row: &mut String,
+        thread: u8,
+        room: usize,
+    ) -> Result<(), AllocError> {
         let name = self.thread_name(thread);
         let begun = room.saturating_sub(2);
         let is_alike = |other: u8| other != thread
@@ -197,12 +217,12 @@ impl TextWriter<'_> {
         if width_of(name) > room && (0..self.source.program.threads()).any(is_alike) {
             return write!(row, "{thread}: ");
         }
-        put_cut(row, name, room)?;
+        put_truncated(row, name, room)?;
         row.push_str(": ")
     }
 
-    // Writes the row of the step at a place, and under it that an assertion after the step failed and
-    // that the step's thread was interrupted, where that is so.
+    // Writes the row of the step at a place; under it, where it is so, a row that says which
+    // assertion failed after the step, and one that says that the step's thread was preempted.
     fn put_step_rows(&self, page: &mut Page, at: usize) -> Result<(), AllocError> {
         let Some(step) = self.step(at) else {
             return Ok(());
@@ -212,22 +232,23 @@ impl TextWriter<'_> {
         let action = self.action_text(thread, step.instruction, retakes)?;
         let mut row = format!(in self.alloc; "{at:>4}")?;
         self.put_action(&mut row, thread, step.instruction, action.as_str())?;
-        self.put_row(page, row.as_str(), self.changes(at, step)?.as_str())?;
+        self.put_row(page, row.as_str(), self.changes_text(at, step)?.as_str())?;
         if step.line.stop == Some(Stop::Assert) {
             self.put_stop_row(page, format!(in self.alloc; "{at:>4}")?, thread)?;
         }
-        if self.is_interrupted(at) {
-            self.put_interruption(page, step)?;
+        if self.is_preempted_after(at) {
+            self.put_preemption(page, step)?;
         }
         Ok(())
     }
 
-    // What the step at a place changed; of a store in the cause also that another thread wrote the
-    // variable since the store's own thread used that last.
-    fn changes(&self, at: usize, step: &Step) -> Result<String, AllocError> {
+    // As text, what the step at a place changed: its object, and the locals that its thread set in
+    // the step and by itself after it. Of a store in the cause it says, too, if another thread
+    // wrote the variable since the storing thread used it last.
+    fn changes_text(&self, at: usize, step: &Step) -> Result<String, AllocError> {
         let thread = step.line.thread;
         let mut changes = self.object_change(step)?;
-        for setting in step.settings.iter() {
+        for setting in step.assignments.iter() {
             if !changes.is_empty() {
                 changes.push_str("; ")?;
             }
@@ -238,14 +259,15 @@ impl TextWriter<'_> {
             let (name, value) = (self.local_name(thread, setting.local), setting.value);
             write!(changes, "{name} = {value}")?;
         }
-        if let Some((writer, since)) = self.writer_between(at, step) {
+        if let Some((writer, since)) = self.intervening_writer(at, step) {
             let name = self.thread_name(writer);
             write!(changes, "; {name} wrote it since step {since}")?;
         }
         Ok(changes)
     }
 
-    // What a step changed of its object, or why it changed nothing of that.
+    // As text, what a step did to its object, or, after `FALSE:`, why its thread stopped instead.
+    // It is empty for a load.
     fn object_change(&self, step: &Step) -> Result<String, AllocError> {
         let name = self.object_name(step.object);
         match (step.line.act, step.line.stop) {
@@ -266,33 +288,35 @@ impl TextWriter<'_> {
             (Act::Signal(_) | Act::Broadcast(_), _) => {
                 format!(in self.alloc; "wakes {}", self.thread_names(step.woken.as_slice())?)
             }
-            _ => self.readings(name, step),
+            _ => self.state_change(name, step),
         }
     }
 
-    // The value, owner or count that the object of this name had before and after a step.
-    fn readings(&self, name: &str, step: &Step) -> Result<String, AllocError> {
+    // As text, how a step changed the object of this name: the value of a variable or the count of
+    // a semaphore before and after the step, as `x 1 -> 2`, or who owns a mutex after it.
+    fn state_change(&self, name: &str, step: &Step) -> Result<String, AllocError> {
         match (step.old, step.new) {
-            (_, Reading::Owner(Some(owner))) => {
+            (_, ObjectState::Owner(Some(owner))) => {
                 format!(in self.alloc; "{name} -> {}", self.thread_name(owner))
             }
-            (_, Reading::Owner(None)) => format!(in self.alloc; "{name} is free"),
-            (Reading::Value(old), Reading::Value(new)) if old == new => {
+            (_, ObjectState::Owner(None)) => format!(in self.alloc; "{name} is free"),
+            (ObjectState::Value(old), ObjectState::Value(new)) if old == new => {
                 format!(in self.alloc; "{name} {new} (unchanged)")
             }
-            (Reading::Value(old), Reading::Value(new)) => {
+            (ObjectState::Value(old), ObjectState::Value(new)) => {
                 format!(in self.alloc; "{name} {old} -> {new}")
             }
-            (Reading::Count(old), Reading::Count(new)) => {
+            (ObjectState::Count(old), ObjectState::Count(new)) => {
                 format!(in self.alloc; "{name} {old} -> {new}")
             }
             _ => Ok(String::new(self.alloc)),
         }
     }
 
-    // Of a store in the cause, the step at a place: the other thread that wrote the variable last since
-    // the store's own thread used the variable, and the step of that use.
-    fn writer_between(&self, at: usize, store: &Step) -> Option<(u8, usize)> {
+    // Of a store, the step at a place: which other thread wrote the variable last since the storing
+    // thread's previous use of it, and the place of that use. `None` where no other thread wrote it
+    // since, or where the step is no store or isn't in the cause of how the schedule ended.
+    fn intervening_writer(&self, at: usize, store: &Step) -> Option<(u8, usize)> {
         if !self.is_in_cause(at) || !matches!(store.line.act, Act::Store { .. }) {
             return None;
         }
@@ -305,21 +329,26 @@ impl TextWriter<'_> {
         Some((writes.last()?.line.thread, since))
     }
 
-    // Writes the row of a thread's failed assertion, begun in `row` with a step's number or `start`.
+    // Writes the row of the assertion that stopped a thread. `row` has the row's first column: the
+    // number of the step after which the thread came to the assertion, or `start`.
     fn put_stop_row(&self, page: &mut Page, mut row: String, thread: u8) -> Result<(), AllocError> {
-        let Some(standing) = self.explanation.standing(thread) else {
+        let Some(standing) = self.explanation.thread_state(thread) else {
             return Ok(());
         };
         self.put_action(&mut row, thread, standing.instruction, "assert")?;
         let changes = match self.source.instruction(thread, standing.instruction) {
-            Some(Instruction::Assert(e)) => self.comparison(standing, e)?,
+            Some(Instruction::Assert(e)) => self.assertion_text(standing, e)?,
             _ => String::new(self.alloc),
         };
         self.put_row(page, row.as_str(), changes.as_str())
     }
 
-    // An assertion that failed, with the values of its locals, as `FALSE: 1 == 2`.
-    fn comparison(&self, standing: &Standing, test: Expression) -> Result<String, AllocError> {
+    // As text, an assertion that failed, with values for its locals, as `FALSE: 1 == 2`.
+    fn assertion_text(
+        &self,
+        standing: &ThreadState,
+        test: Expression,
+    ) -> Result<String, AllocError> {
         let value = |value: Value| match value {
             Value::Literal(n) => n,
             Value::Local(r) => standing.locals.get(r).copied().unwrap_or(0),
@@ -332,8 +361,9 @@ impl TextWriter<'_> {
         }
     }
 
-    // Writes under the row of a step that the step's thread was interrupted after the step.
-    fn put_interruption(&self, page: &mut Page, step: &Step) -> Result<(), AllocError> {
+    // Writes a row, to stand below that of a step, which says that the step's thread was preempted,
+    // and before which of its statements.
+    fn put_preemption(&self, page: &mut Page, step: &Step) -> Result<(), AllocError> {
         let column = self.columns.start(step.line.thread as usize);
         let row = format!(in self.alloc; "{:column$}{:~<COLUMN$}", "", "")?;
         let site = self.site(step.line.thread, step.next);
@@ -341,7 +371,9 @@ impl TextWriter<'_> {
         page.put_columns(row.as_str(), words.as_str(), 0, column)
     }
 
-    // Writes where each thread with a column of its own is at the end, where that is a deadlock.
+    // Where the schedule ends in a deadlock, writes for each thread with a column of its own
+    // whether it has ended or is blocked and where, and in a second row what the blocked ones can't
+    // do.
     fn put_end_rows(&self, page: &mut Page) -> Result<(), AllocError> {
         if self.explanation.kind() != Some(Kind::Stuck) || self.columns.own == 0 {
             return Ok(());
@@ -349,17 +381,23 @@ impl TextWriter<'_> {
         let mut row = " end".to_string(self.alloc)?;
         let mut under = String::new(self.alloc);
         for t in (0..self.source.program.threads()).take(self.columns.own) {
-            self.put_end(&mut row, &mut under, t)?;
+            self.put_end_cells(&mut row, &mut under, t)?;
         }
-        page.put_whole(row.as_str())?;
+        page.put_unwrapped(row.as_str())?;
         if under.is_empty() {
             return Ok(());
         }
-        page.put_whole(under.as_str())
+        page.put_unwrapped(under.as_str())
     }
 
-    // Adds to `row` where a thread is at the end, and to `under`, the next row, what it can't do.
-    fn put_end(&self, row: &mut String, under: &mut String, thread: u8) -> Result<(), AllocError> {
+    // Adds to `row` whether a thread has ended or is blocked and where, and to `under`, the next
+    // row, what a blocked thread can't do.
+    fn put_end_cells(
+        &self,
+        row: &mut String,
+        under: &mut String,
+        thread: u8,
+    ) -> Result<(), AllocError> {
         let start = self.columns.start(thread as usize);
         pad_to(row, start)?;
         let Some(wait) = self.waits.of(thread) else {
@@ -373,11 +411,11 @@ impl TextWriter<'_> {
             blocked.as_str()
         })?;
         pad_to(under, start)?;
-        put_cut(under, self.blocked_action(wait)?.as_str(), COLUMN)
+        put_truncated(under, self.blocked_action(wait)?.as_str(), COLUMN)
     }
 }
 
-// The two lines above a table: the names of its columns, and rules under the names.
+// The two lines above a table: the names of its columns, and lines of dashes under the names.
 #[derive(Drop)]
 struct Header {
     names: String,
@@ -385,12 +423,12 @@ struct Header {
 }
 
 impl Header {
-    // Adds the name of a column that begins at `start`, and under the name a rule as wide as the column.
+    // Adds the name of a column that begins at `start`, and under it dashes, `width` of them.
     fn put_column(&mut self, start: usize, width: usize, name: &str) -> Result<(), AllocError> {
         pad_to(&mut self.names, start)?;
         self.names.push_str(name)?;
         pad_to(&mut self.rules, start)?;
-        put_times(&mut self.rules, '-', width)
+        put_repeated(&mut self.rules, '-', width)
     }
 }
 

@@ -15,7 +15,8 @@ use waits::Waits;
 pub struct Layout {
     /// Columns of a line, at most; fewer than 40 count as 40, more than 1,000 as 1,000.
     pub width: usize,
-    /// A schedule of at most this many steps has a row for each; of a longer one some are folded.
+    /// A schedule of at most this many steps has a row for each. In a longer one, steps that matter
+    /// less share rows.
     pub steps: usize,
     /// Whether a search showed that no schedule with fewer preemptions is bad.
     pub is_fewest: bool,
@@ -28,7 +29,9 @@ pub struct TextWriter<'a> {
     pub explanation: &'a Explanation,
     pub source: &'a Source<'a>,
     pub layout: Layout,
+    /// What happened in the run, and what of that is in the cause of how the run ended.
     pub causes: Causes,
+    /// Which blocked threads there are, and which statements could end their waits.
     pub waits: Waits,
     /// Where the lines of the text come from.
     pub marks: Marks,
@@ -80,7 +83,7 @@ impl fmt::Display for Site<'_> {
     }
 }
 
-/// Adds a word to a list of words, which commas part.
+/// Adds a word to a list of words, after a comma unless it is the first.
 pub fn push_word<D: fmt::Display + Drop>(list: &mut String, word: D) -> Result<(), AllocError> {
     if !list.is_empty() {
         list.push_str(", ")?;
@@ -88,7 +91,8 @@ pub fn push_word<D: fmt::Display + Drop>(list: &mut String, word: D) -> Result<(
     list.write(word)
 }
 
-// A word as a shell reads one: in quotes where it has more than letters, digits and `_-./+,@%`.
+// A word of a command as a shell reads it: in quotes where it is empty or has other bytes than
+// letters, digits and `_-./+,@%`.
 fn shell_quoted(alloc: Global, word: &str) -> Result<String, AllocError> {
     let is_plain = |byte: &u8| byte.is_ascii_alphanumeric() || b"_-./+,@%".contains(byte);
     if !word.is_empty() && word.as_bytes().iter().all(is_plain) {
@@ -115,21 +119,22 @@ impl<'a> TextWriter<'a> {
             marks: Marks::new(alloc, source.text)?,
             columns: Columns::new(layout.width, 0, 0),
         };
-        let threads = explanation.standings().len();
+        let threads = explanation.thread_states().len();
         writer.columns = Columns::new(layout.width, threads, writer.line_cell_width()?);
         Ok(writer)
     }
 
-    // The text that says how the schedule ends and why, with the table of its steps or without.
+    // The whole text: how the schedule ends and why, with the table of its steps or without, and
+    // the command that replays it.
     fn text(&self, with_steps: bool) -> Result<Vec<u8>, AllocError> {
         let mut page = Page::new(self.alloc, self.columns.width);
         self.put_head(&mut page)?;
-        page.put_blank()?;
+        page.put_empty_line()?;
         let steps = self.explanation.steps().len();
         let mut shown = steps;
         if with_steps {
             shown = self.put_table(&mut page)?;
-            page.put_blank()?;
+            page.put_empty_line()?;
         }
         self.put_reasons(&mut page)?;
         if shown != steps {
@@ -138,7 +143,7 @@ impl<'a> TextWriter<'a> {
             )?;
             page.put_line(words.as_str(), 2)?;
         }
-        page.put_whole(self.replay_command()?.as_str())?;
+        page.put_unwrapped(self.replay_command()?.as_str())?;
         Ok(page.into_bytes())
     }
 
@@ -152,17 +157,17 @@ impl<'a> TextWriter<'a> {
         format!(in self.alloc; "Replay: ctxbound replay {file} {schedule}")
     }
 
-    /// The name of the guest's file.
+    /// The name of the guest's file; `?` where it isn't UTF-8.
     pub fn file_name(&self) -> &'a str {
         from_utf8(self.source.file).unwrap_or("?")
     }
 
-    /// The name of the thread of this number.
+    /// The name of the thread of this number; `?` where there is none.
     pub fn thread_name(&self, thread: u8) -> &'a str {
-        name_text(self.source.thread(thread))
+        name_text(self.source.thread_name(thread))
     }
 
-    /// The names of threads, with commas between.
+    /// The names of the threads of these numbers, separated by commas.
     pub fn thread_names(&self, threads: &[u8]) -> Result<String, AllocError> {
         let mut names = String::new(self.alloc);
         for thread in threads {
@@ -173,37 +178,39 @@ impl<'a> TextWriter<'a> {
 
     /// The name of an object.
     pub fn object_name(&self, object: Object) -> &'a str {
-        name_text(self.source.object(object))
+        name_text(self.source.object_name(object))
     }
 
     /// The name of a local of a thread.
     pub fn local_name(&self, thread: u8, local: usize) -> &'a str {
-        name_text(self.source.local(thread, local))
+        name_text(self.source.local_name(thread, local))
     }
 
-    /// The step at a place in the schedule, if that step ran.
+    /// The step at a place in the schedule; `None` where no step ran there.
     pub fn step(&self, at: usize) -> Option<&'a Step> {
         self.explanation.steps().get(at)
     }
 
-    /// The event at a place among the events of the run.
+    /// What happened at a place in the run, of which both the steps and what threads did by
+    /// themselves are events; `None` past the last event.
     pub fn event(&self, at: usize) -> Option<Event> {
         self.causes.events().get(at).copied()
     }
 
-    /// The line of the file in which an instruction of a thread is.
+    /// The line in which an instruction of a thread is, of the file that it comes from.
     pub fn line(&self, thread: u8, instruction: usize) -> FileLine<'_> {
         let line = self.source.line(thread, instruction);
         self.marks.file_line(self.file_name(), line)
     }
 
-    /// The number of the instruction that a thread has come to at the end of the run.
+    /// The number of the instruction that a thread has come to at the end of the run; 0 where no
+    /// thread has this number.
     pub fn instruction_at_end(&self, thread: u8) -> usize {
-        let standing = self.explanation.standing(thread);
+        let standing = self.explanation.thread_state(thread);
         standing.map_or(0, |standing| standing.instruction)
     }
 
-    /// The line that a thread has come to at the end of the run.
+    /// The line of the statement that a thread has come to at the end of the run.
     pub fn line_at_end(&self, thread: u8) -> FileLine<'_> {
         self.line(thread, self.instruction_at_end(thread))
     }
@@ -222,12 +229,12 @@ impl<'a> TextWriter<'a> {
     }
 
     /// The statement of an event, with the name of its thread and the line.
-    pub fn site_of(&self, event: &Event) -> Site<'_> {
+    pub fn event_site(&self, event: &Event) -> Site<'_> {
         self.site(event.thread, event.instruction)
     }
 
-    /// What a thread does or can't do at instruction `at`: its statement, or, where `retakes` says
-    /// that a `wait` there takes its mutex again, `retake` and the mutex.
+    /// As text, what a thread does or can't do at instruction `at`: its statement, or, where
+    /// `retakes` says that a `wait` there takes its mutex again, `retake` and the mutex.
     pub fn action_text(&self, thread: u8, at: usize, retakes: bool) -> Result<String, AllocError> {
         match self.source.instruction(thread, at) {
             Some(Instruction::Wait { mutex: m, .. }) if retakes => {

@@ -1,4 +1,4 @@
-//! Which schedule is explained, and in which format.
+//! Explanations of a schedule that is asked for, or that a search finds, in some format.
 
 ghost use Rattle.std.specs.Prelude.{◌≡◌, IfOk, IfErr};
 ghost use Rattle.std.specs.Arc.{arc_value};
@@ -25,20 +25,21 @@ use std::io::Eprint;
 use std::sync::{Arc, Wait};
 use std::thread::Threads;
 
-// The line after the answer of a search up to a bound that found no bad schedule.
+// The line that is told after a search up to a bound found no bad schedule.
 const NO_PROOF: &str = "That is no proof: others have more. Try --unbounded, or a higher --bound.";
 
 /// The bytes of an explanation in some format, unless memory runs out.
 pub type Output = Result<Vec<u8>, AllocError>;
 
-/// A format of explanations, as text, JSON or a page.
+/// A format of explanations, such as text, JSON or a page.
 pub trait Render {
-    /// What is explained, in this format; `source` is the program, and `file` the name of its file.
+    /// The answer in this format: an explanation, or that a search found no bad schedule. `source`
+    /// is the program, and `file` the name of its file.
     fn render(&self, alloc: Global, answer: &Explained, source: &Source<'_>, file: &str) -> Output;
 }
 
-/// An explanation as text, in lines of at most `width` columns: each step has a row where there are at
-/// most `steps` of them, else those that matter.
+/// The format of explanations as text, in lines of at most `width` columns. Each step has a row
+/// where there are at most `steps` steps, else only those that matter.
 #[derive(Clone, Copy, Debug)]
 pub struct Text {
     pub width: usize,
@@ -46,6 +47,7 @@ pub struct Text {
 }
 
 impl Render for Text {
+    // The explanation as text, or the sentence that a search found no bad schedule.
     fn render(&self, alloc: Global, answer: &Explained, source: &Source<'_>, file: &str) -> Output {
         let (explanation, is_fewest) = match answer {
             Explained::Asked(explanation) => (explanation, false),
@@ -63,13 +65,13 @@ impl Render for Text {
     }
 }
 
-/// The explanation of the schedule that is asked for, in the program that `text` spells, as far as the
-/// schedule runs; or of the bad schedule that a search finds.
+/// The explanation of the schedule that is asked for, in the program that `text` spells, as far as
+/// the schedule runs; or of the bad schedule that a search finds.
 ///
 /// # Errors
 ///
-/// What is wrong first: with the text, with the program that the text spells, or with the schedule's
-/// text; `Memory` where memory runs out.
+/// What is wrong first: with the text, with the program that the text spells, or with the
+/// schedule's text; `Memory` where memory runs out.
 pub fn explain_text<R: Threads + Wait + Sync + Eprint, T: Render>(
     rt: &R,
     alloc: Global,
@@ -96,7 +98,8 @@ pub fn explain_text<R: Threads + Wait + Sync + Eprint, T: Render>(
     })
 }
 
-/// The schedule that is explained: asked for, or found by a search, if one found any.
+/// The schedule that is explained: one that was asked for, or one that a search found, if it found
+/// any.
 #[derive(Drop)]
 pub enum Explained {
     /// The schedule that was asked for.
@@ -106,7 +109,9 @@ pub enum Explained {
 }
 
 impl Explained {
-    // What is explained of a program: the schedule of a request, or else the one that a search finds.
+    // Explains the schedule that a request asks for, or, where it asks for none, searches the
+    // program and explains the schedule that the search finds, if any. An error where the
+    // schedule's text is refused, or memory runs out.
     fn new<R: Threads + Wait + Sync + Eprint>(
         rt: &R,
         alloc: Global,
@@ -125,8 +130,8 @@ impl Explained {
         }
     }
 
-    // The status that the program ends with: that of the explanation, or, where the search found nothing
-    // to explain, that of the search.
+    // The status that the program ends with: that of the explanation, or, where the search found
+    // nothing to explain, that of the search.
     fn status(&self) -> u8
         ensures { result ≡ told_status self.now }
     {
@@ -139,7 +144,8 @@ impl Explained {
     }
 }
 
-// The explanation of the schedule that this text spells.
+// The explanation of the schedule that the text `schedule` spells. An error where it spells none,
+// or memory runs out.
 fn explain_spelled(alloc: Global, program: &Program, schedule: &[u8]) -> Result<Explanation, Fault>
     ensures asked { IfOk result (IsAsked program.now schedule.now) }
     ensures fault { IfErr result (IsScheduleFault schedule.now) }
@@ -148,7 +154,8 @@ fn explain_spelled(alloc: Global, program: &Program, schedule: &[u8]) -> Result<
     Ok(Explanation::new(alloc, program, steps.as_slice())?)
 }
 
-// The report of a search, and the explanation of the schedule that it names, if it names one.
+// Searches a program, and explains the schedule that the report names: the report, and the
+// explanation, which is `None` where the report names no schedule.
 fn search_and_explain<R: Threads + Wait + Sync + Eprint>(
     rt: &R,
     alloc: Global,
@@ -164,7 +171,7 @@ fn search_and_explain<R: Threads + Wait + Sync + Eprint>(
     Ok((report, explanation))
 }
 
-// The explanation of the schedule that a report names, if it names one.
+// The explanation of the schedule that a report names; `None` where it names none.
 fn explain_reported(
     alloc: Global,
     program: &Program,
@@ -178,8 +185,8 @@ fn explain_reported(
     }
 }
 
-// The status after an explanation: that of a replay, or that of a refusal where a step of the schedule
-// can't be taken.
+// The status that the program ends with after an explanation: that of a replay of the schedule, or
+// that of a refusal where a step of the schedule can't be taken.
 fn explained_status(explanation: &Explanation) -> u8
     ensures { result ≡ explained_status explanation.now.refused explanation.now.kind }
 {
@@ -189,13 +196,14 @@ fn explained_status(explanation: &Explanation) -> u8
     }
 }
 
-/// Whether a search showed that no schedule with fewer preemptions than the bad one that its report
-/// names is bad.
+/// Whether the report of a search names a bad schedule and shows that none with fewer preemptions
+/// is bad: the search had a bound, and wasn't cut short.
 pub fn is_fewest(search: &Report) -> bool {
     matches!(&search.verdict, Verdict::Bad { .. }) && search.bound.is_some()
 }
 
-/// What is told as text where a search of the program in this file found no bad schedule.
+/// The sentence for the user where a search of the program in this file found no bad schedule, with
+/// how far the search went.
 ///
 /// # Errors
 ///

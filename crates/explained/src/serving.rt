@@ -1,14 +1,16 @@
-//! An explanation of the guest program in a file.
+//! The command `explain`: an explanation of a schedule of the guest program in a file.
 
 use crate::explained::{Render, explain_text};
-use answering::{CommandFault, ExplainRequest, read_file, serve_printed};
+use answering::{CommandFault, ExplainRequest, read_file, write_printed};
 use std::alloc::{Alloc, Global};
 use std::fs::Files;
 use std::io::{Eprint, Input, Write};
 use std::sync::Wait;
 use std::thread::Threads;
 
-/// Explains a schedule of the guest in a file by `renderer`; names a device that fails, and the cause.
+/// Explains a schedule of the guest program in a file, the one that the request has or that a
+/// search finds. Writes the explanation in the format of `renderer` to `out`, or why there is none
+/// to `err`, with the name of a device that failed. Answers the status that the program ends with.
 pub fn serve_explain<H, T: Render, W: Write, E: Write>(
     rt: &H,
     request: &ExplainRequest,
@@ -27,5 +29,5 @@ where
         },
         Err(error) => Err(CommandFault::Device(file, error)),
     };
-    serve_printed(printed, out, err)
+    write_printed(printed, out, err)
 }

@@ -10,18 +10,19 @@ use explained::{Text, serve_explain};
 use std::io::Write;
 use std::process::ExitCode;
 
-// What is said where the words ask for nothing.
+// What is said where the command words are none of the three commands.
 const USAGE: &str = "usage: first explain FILE [SCHEDULE], first explore FILE --trace, or first \
                      replay FILE SCHEDULE";
 
-// What command words ask for: to replay or search the guest program in a file, or to explain a schedule.
+// What command words ask for: to replay or search a file's guest program, or to explain a schedule.
 #[derive(Drop)]
 enum Request {
     Guest { file: String, request: GuestRequest },
     Explain(ExplainRequest),
 }
 
-// What the program's command words ask for, if for anything.
+// What the program's command words ask for; `None` where they are none of the three commands, or
+// can't be read.
 fn read_request(rt: &HostRuntime) -> Option<Request> {
     let words: Vec<String> = std::env::args(rt).ok()?.collect(rt.alloc()).ok()?;
     let file = words.get(2)?.as_str().to_string(rt.alloc()).ok()?;
@@ -49,6 +50,7 @@ fn read_request(rt: &HostRuntime) -> Option<Request> {
     Some(Request::Guest { file, request })
 }
 
+// Reads the command words, does what they ask for, and ends the program with the status.
 fn main(rt: HostRuntime) -> ExitCode {
     let mut out = rt.stdout();
     let mut err = rt.stderr();

@@ -20,17 +20,17 @@ limit_of kinds.Thread = THREADS
 
 -- ---- the refusal of one use
 
--- of a declared name, given what it is declared as before, and how many of its kind are
+-- the refusal of a declared name, given what it is declared as before, and the count of its kind
 abbrev pub declares_refusal : NameKind → Name → Option NameKind → ℕ → Option CheckError
 declares_refusal k n (Some j) count = Some (Duplicate n.at)
 declares_refusal k n None count = if ltb count (limit_of k) then None else Some (TooMany n.at)
 
--- of a name where an object of this kind must be, given what it is declared as
+-- the refusal of a name where an object of a kind must be, given what it is declared as
 abbrev pub object_refusal : NameKind → Name → Option NameKind → Option CheckError
 object_refusal k n None = Some (Unknown n.at)
 object_refusal k n (Some j) = if same j k then None else Some (WrongKind n.at)
 
--- of a name where a local must be, given what it is declared as, and the locals before it
+-- the refusal of a name where a local must be, given what it is declared as, and earlier locals
 abbrev pub local_refusal : Name → Option NameKind → List (List ℕ) → Option CheckError
 local_refusal n (Some j) ns = Some (WrongKind n.at)
 local_refusal n None ns =
@@ -38,7 +38,7 @@ local_refusal n None ns =
     else if ltb (length ns) LOCALS then None
     else Some (TooMany n.at)
 
--- of a use, given all uses of the text and those before it
+-- the refusal of a use, given all uses of the text and those before it
 abbrev pub refusal : List Use → List Use → Use → Option CheckError
 refusal all before (declares k n) = declares_refusal k n (kind_in before n.text) (how_many k before)
 refusal all before (object k n) = object_refusal k n (kind_in all n.text)

@@ -3,7 +3,7 @@ use Rattle.std.specs.Prelude.{ℕ, ◌+◌, ◌*◌}
 use Rattle.guest_syntax.specs.Tree as tree
 use Rattle.guest_syntax.specs.Tree.{Stmt, Block}
 
--- of a statement and of a block
+-- how many instructions a statement and a block come to
 abbrev mutual
   pub size : Stmt → ℕ
   size (tree.load r x) = 1

@@ -32,7 +32,7 @@ pub data Use : Type 0 where
   local : Name → Use  -- a name where a local must be
   outside : Pos → Use  -- a `leave` with no `repeat` round it
 
--- of an operand and of an expression
+-- the uses in an operand and in an expression
 abbrev pub operand_uses : Operand → List Use
 operand_uses (tree.local n) = local n ∷ []
 operand_uses (tree.literal z) = []
@@ -41,7 +41,7 @@ abbrev pub expr_uses : Expr → List Use
 expr_uses (tree.single a) = operand_uses a
 expr_uses (tree.both a op b) = operand_uses a ++ operand_uses b
 
--- of a statement at this place and of a block, with whether a `repeat` is round them
+-- the uses in a statement at a place and in a block, with whether a `repeat` is round them
 abbrev mutual
   pub stmt_uses : Bool → Pos → Stmt → List Use
   stmt_uses inside at (tree.load r x) = local r ∷ object kinds.Variable x ∷ []
@@ -68,7 +68,7 @@ abbrev mutual
   block_uses inside tree.nothing = []
   block_uses inside (tree.next at s b) = stmt_uses inside at s ++ block_uses inside b
 
--- of a thread, of declarations and of threads
+-- the uses in a thread, in declarations and in threads
 abbrev pub thread_uses : Thread → List Use
 thread_uses t = declares kinds.Thread t.name ∷ block_uses false t.body
 
@@ -80,13 +80,13 @@ abbrev pub threads_uses : List Thread → List Use
 threads_uses [] = []
 threads_uses (t ∷ ts) = thread_uses t ++ threads_uses ts
 
--- of a whole text
+-- all uses in a text
 abbrev pub uses : List Declaration → List Thread → List Use
 uses ds ts = declarations_uses ds ++ threads_uses ts
 
 -- ---- what a list of uses says
 
--- the kind that a name is declared as, by its first declaration
+-- the kind that a name is declared as, by the first use that declares it
 abbrev pub kind_in : List Use → List ℕ → Option NameKind
 kind_in [] name = None
 kind_in (declares k n ∷ us) name = if bytes_eq n.text name then Some k else kind_in us name
@@ -94,7 +94,7 @@ kind_in (object k n ∷ us) name = kind_in us name
 kind_in (local n ∷ us) name = kind_in us name
 kind_in (outside at ∷ us) name = kind_in us name
 
--- how many names of a kind are declared
+-- how many uses declare a name of a kind
 abbrev pub how_many : NameKind → List Use → ℕ
 how_many k [] = 0
 how_many k (declares j n ∷ us) = if same j k then suc (how_many k us) else how_many k us
@@ -102,7 +102,7 @@ how_many k (object j n ∷ us) = how_many k us
 how_many k (local n ∷ us) = how_many k us
 how_many k (outside at ∷ us) = how_many k us
 
--- whether a name is among these
+-- whether a list of names has a name
 abbrev pub knows : List (List ℕ) → List ℕ → Bool
 knows [] name = false
 knows (n ∷ ns) name = bytes_eq n name || knows ns name

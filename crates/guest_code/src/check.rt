@@ -18,8 +18,8 @@ use guest_syntax::place::Pos;
 use guest_syntax::tree::{Declaration, Expr, Name, Operand, Placed, Statement, Thread, Tree};
 use std::alloc::Global;
 
-/// Where statements are checked: in this tree, whose declarations are looked up, and inside a
-/// `repeat` or not.
+/// Where statements are checked: in which tree, whose declarations are looked up, and whether
+/// `inside` a `repeat`.
 #[derive(Clone, Copy)]
 pub struct Scope<'a> {
     pub alloc: Global,
@@ -27,7 +27,7 @@ pub struct Scope<'a> {
     pub inside: bool,
 }
 
-/// The kind that a name is declared as by these declarations.
+// The kind that a name is declared as by the first of `declarations` that declares it, if any.
 fn kind_declared(declarations: &[Declaration], name: &[u8]) -> Option<NameKind>
     ensures { result ≡ kind_in (declared_in declarations.now) name.now }
 {
@@ -39,7 +39,7 @@ fn kind_declared(declarations: &[Declaration], name: &[u8]) -> Option<NameKind>
     None
 }
 
-/// The kind of a name of one of these threads.
+// `NameKind::Thread` where one of `threads` has the name `name`, else none.
 fn kind_of_thread(threads: &[Thread], name: &[u8]) -> Option<NameKind>
     ensures { result ≡ kind_in (threads_uses (map thread_view threads.now)) name.now }
 {
@@ -51,7 +51,7 @@ fn kind_of_thread(threads: &[Thread], name: &[u8]) -> Option<NameKind>
     None
 }
 
-/// The kind that a name is declared as.
+// The kind that a name is declared as by `declarations`, else by `threads`, if by any.
 #[tactic(auto, using(crate::proofs::NameLookup::kind_stays, crate::proofs::NameLookup::kind_after))]
 fn kind_among(declarations: &[Declaration], threads: &[Thread], name: &[u8]) -> Option<NameKind>
     ensures { result ≡ kind_in (uses_of declarations.now threads.now) name.now }
@@ -62,7 +62,7 @@ fn kind_among(declarations: &[Declaration], threads: &[Thread], name: &[u8]) -> 
     }
 }
 
-/// The kind that a name is declared as anywhere in the text.
+// The kind that a name is declared as anywhere in a tree, if anywhere.
 #[tactic(auto, unfolding(crate::specs::inner::Walk::all_uses))]
 fn kind_in(tree: &Tree, name: &Name) -> Option<NameKind>
     ensures { result ≡ kind_in (all_uses tree.now) name.now.text.items }
@@ -70,7 +70,7 @@ fn kind_in(tree: &Tree, name: &Name) -> Option<NameKind>
     kind_among(tree.declarations(), tree.threads(), &name.text)
 }
 
-/// How many declarations of a kind there are.
+// How many of `declarations` declare an object of a kind.
 fn how_many(kind: NameKind, declarations: &[Declaration]) -> usize
     ensures { result ≡ how_many kind (uses_of declarations.now []) }
 {
@@ -83,8 +83,8 @@ fn how_many(kind: NameKind, declarations: &[Declaration]) -> usize
     count
 }
 
-/// Whether a name is among these.
-fn knows(locals: &[Vec<u8>], name: &[u8]) -> bool
+// Whether a name is one of `locals`.
+fn contains_name(locals: &[Vec<u8>], name: &[u8]) -> bool
     ensures { result ≡ knows (names_view locals.now) name.now }
 {
     for local in locals {
@@ -95,7 +95,7 @@ fn knows(locals: &[Vec<u8>], name: &[u8]) -> bool
     false
 }
 
-/// Refuses a name where an object of this kind must be.
+// Refuses a name that isn't declared as an object of `kind`.
 fn check_object(tree: &Tree, kind: NameKind, name: &Name) -> Result<(), CheckError>
     ensures { result ≡ passed (refusal (all_uses tree.now) []
         (object kind (name_view name.now))) tt }
@@ -107,7 +107,7 @@ fn check_object(tree: &Tree, kind: NameKind, name: &Name) -> Result<(), CheckErr
     }
 }
 
-/// Refuses a `leave` with no `repeat` round it.
+// Refuses a `leave` with no `repeat` round it.
 fn check_leave(inside: bool, at: Pos) -> Result<(), CheckError>
     ensures { result ≡ cond inside (Ok tt) (Err (CheckError.LeaveOutside at)) }
 {
@@ -118,7 +118,7 @@ fn check_leave(inside: bool, at: Pos) -> Result<(), CheckError>
     }
 }
 
-/// Refuses a name where a local must be, else adds it to the locals where it is new.
+// Refuses a name that is declared, or would be one local too many; else adds it to `locals` if new.
 fn check_local(scope: Scope<'_>, locals: &mut Vec<Vec<u8>>, name: &Name) -> Result<(), CheckError>
     ensures { Meets result scope.entry locals.old locals.new
         (used.local (name_view name.now) ∷ []) }
@@ -126,7 +126,7 @@ fn check_local(scope: Scope<'_>, locals: &mut Vec<Vec<u8>>, name: &Name) -> Resu
     if kind_in(scope.tree, name).is_some() {
         return Err(CheckError::WrongKind(name.at));
     }
-    if knows(locals, &name.text) {
+    if contains_name(locals, &name.text) {
         return Ok(());
     }
     if locals.len() >= LOCALS {
@@ -136,7 +136,7 @@ fn check_local(scope: Scope<'_>, locals: &mut Vec<Vec<u8>>, name: &Name) -> Resu
     Ok(())
 }
 
-/// Checks the local that an operand may be.
+// Checks the local that an operand names, if it names one.
 fn check_operand(
     scope: Scope<'_>,
     locals: &mut Vec<Vec<u8>>,
@@ -151,7 +151,7 @@ fn check_operand(
     }
 }
 
-/// Checks two operands, the first one first.
+// Checks the locals that two operands name, that of `first` first.
 fn check_operands(
     scope: Scope<'_>,
     locals: &mut Vec<Vec<u8>>,
@@ -165,7 +165,7 @@ fn check_operands(
     check_operand(scope, locals, second)
 }
 
-/// Checks the names that are used in an expression.
+// Checks the names that are used in an expression.
 fn check_expr(scope: Scope<'_>, locals: &mut Vec<Vec<u8>>, expr: &Expr) -> Result<(), CheckError>
     ensures { Meets result scope.entry locals.old locals.new (expr_uses (expr_view expr.now)) }
 {
@@ -175,7 +175,7 @@ fn check_expr(scope: Scope<'_>, locals: &mut Vec<Vec<u8>>, expr: &Expr) -> Resul
     }
 }
 
-/// Checks the names of a local and a variable.
+// Checks the local and the variable that are used in a `load`, an `add` or a `cas`.
 fn check_load(
     scope: Scope<'_>,
     locals: &mut Vec<Vec<u8>>,
@@ -189,7 +189,7 @@ fn check_load(
     check_object(scope.tree, NameKind::Variable, variable)
 }
 
-/// Checks the names that are used in a `store`.
+// Checks the names that are used in a `store`.
 fn check_store(
     scope: Scope<'_>,
     locals: &mut Vec<Vec<u8>>,
@@ -203,7 +203,7 @@ fn check_store(
     check_operand(scope, locals, value)
 }
 
-/// Checks the names that are used in an `add`.
+// Checks the names that are used in an `add`.
 fn check_add(
     scope: Scope<'_>,
     locals: &mut Vec<Vec<u8>>,
@@ -219,7 +219,7 @@ fn check_add(
     check_operand(scope, locals, value)
 }
 
-/// Checks the names that are used in a `set`.
+// Checks the names that are used in a `set`.
 fn check_set(
     scope: Scope<'_>,
     locals: &mut Vec<Vec<u8>>,
@@ -233,7 +233,7 @@ fn check_set(
     check_expr(scope, locals, value)
 }
 
-/// Checks the names that are used in a `wait`, which has no local.
+// Checks the names that are used in a `wait`, which has no local.
 fn check_wait(tree: &Tree, condition: &Name, mutex: &Name) -> Result<(), CheckError>
     ensures { result ≡ passed (first (all_uses tree.now) []
         (object NameKind.Condition (name_view condition.now) ∷ object NameKind.Mutex (name_view mutex.now)
@@ -243,7 +243,7 @@ fn check_wait(tree: &Tree, condition: &Name, mutex: &Name) -> Result<(), CheckEr
     check_object(tree, NameKind::Mutex, mutex)
 }
 
-/// Checks the names that are used in a statement.
+// Checks the names that are used in a statement.
 #[cycle(body)]
 fn check_statement(
     scope: Scope<'_>,
@@ -298,7 +298,7 @@ fn check_statement(
     }
 }
 
-/// Checks the names that are used in an `if` with no `else`.
+// Checks the names that are used in an `if` with no `else`.
 #[cycle(body)]
 #[tactic(auto, using(crate::proofs::CheckIsFault::walk_goes, crate::proofs::CheckIsFault::walk_stops))]
 fn check_if(
@@ -314,7 +314,7 @@ fn check_if(
     check_block(scope, locals, then)
 }
 
-/// Checks the names that are used in an `if` with an `else`.
+// Checks the names that are used in an `if` with an `else`.
 #[cycle(body)]
 #[tactic(auto, using(crate::proofs::CheckIsFault::walk_goes, crate::proofs::CheckIsFault::walk_stops))]
 fn check_choice(
@@ -333,7 +333,7 @@ fn check_choice(
     check_block(scope, locals, other)
 }
 
-/// Checks the names that are used in the body of a `repeat`.
+// Checks the names that are used in the body of a `repeat`.
 #[cycle(body)]
 fn check_repeat(
     scope: Scope<'_>,
@@ -351,7 +351,7 @@ fn check_repeat(
     check_block(inside, locals, body)
 }
 
-/// Checks the names that are used in a block.
+// Checks the names that are used in a block.
 #[cycle(body)]
 fn check_block(
     scope: Scope<'_>,
@@ -367,7 +367,7 @@ fn check_block(
     Ok(())
 }
 
-/// Whether a name may be declared here, where these are declared before it, of its kind this many.
+// Refuses a new name that `declarations` or `threads` have, or where `count` is the kind's limit.
 fn check_new(
     declarations: &[Declaration],
     threads: &[Thread],
@@ -387,10 +387,9 @@ fn check_new(
     Ok(())
 }
 
-/// Refuses the first of these declarations that may not be there, with all uses in view.
+// Refuses the first of a tree's `declarations` whose name is declared before, or is one too many.
 fn check_declarations(tree: &Tree, declarations: &[Declaration]) -> Result<(), CheckError>
-    ensures { result ≡ passed (first (all_uses tree.now) []
-        (declared_in declarations.now)) tt }
+    ensures { result ≡ passed (first (all_uses tree.now) [] (declared_in declarations.now)) tt }
 {
     for (i, declaration) in declarations.iter().enumerate() {
         let kind = kind_of(declaration.object);
@@ -400,7 +399,7 @@ fn check_declarations(tree: &Tree, declarations: &[Declaration]) -> Result<(), C
     Ok(())
 }
 
-/// The locals of a thread, in the order of their first uses.
+// Checks the names in a thread, and answers the thread's locals in the order of their first uses.
 fn check_body(alloc: Global, tree: &Tree, thread: &Thread) -> Result<Vec<Vec<u8>>, CheckError>
     ensures { Finds result tree.now (block_uses false (block_view thread.now.body.items)) }
 {
@@ -414,7 +413,7 @@ fn check_body(alloc: Global, tree: &Tree, thread: &Thread) -> Result<Vec<Vec<u8>
     Ok(locals)
 }
 
-/// The locals of each thread, where the names are right.
+// The locals of each thread in the order of first use, or the first fault of a name.
 fn check_names(alloc: Global, tree: &Tree) -> Result<Vec<Vec<Vec<u8>>>, CheckError>
     ensures gives { Answers result (first_of_names (all_uses tree.now)) }
     ensures locals { IfOk result (λ v. map locals_view v.items ≡ tree_locals (tree_view tree.now)) }
@@ -437,8 +436,7 @@ fn check_names(alloc: Global, tree: &Tree) -> Result<Vec<Vec<Vec<u8>>>, CheckErr
     Ok(all)
 }
 
-/// The locals of each thread in the order of first use, where the tree has no fault, else its
-/// fault. Fails too when memory runs out.
+/// The locals of each thread in the order of first use, or the tree's first fault or `OutOfMemory`.
 pub fn check(alloc: Global, tree: &Tree) -> Result<Vec<Vec<Vec<u8>>>, CheckError>
     ensures gives { Answers result (fault (tree_view tree.now)) }
     ensures locals { IfOk result (λ v. map locals_view v.items ≡ tree_locals (tree_view tree.now)) }

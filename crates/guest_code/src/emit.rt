@@ -15,14 +15,15 @@ use crate::program::Instruction;
 use guest_syntax::tree::{Expr, Name, Operand, Placed, Statement};
 use std::alloc::AllocError;
 
-/// Where code is put: what names stand for there, and the distance to the exit.
+/// Where code is put: what names stand for there, and the distance to the exit of a `repeat`.
 #[derive(Clone, Copy)]
 pub struct Context<'a> {
     pub names: Names<'a>,
+    /// How many instructions come after the code, to the end of the nearest `repeat`'s last copy.
     pub distance_to_exit: usize,
 }
 
-/// The instruction that loads a variable into a local.
+// The instruction that loads a variable into a local.
 fn load(names: Names<'_>, local: &Name, variable: &Name) -> Instruction
     ensures { result ≡ Instruction.Load (local_number (names_of names.entry) (name_view local.now))
         (variable_number (names_of names.entry) (name_view variable.now)) }
@@ -33,7 +34,7 @@ fn load(names: Names<'_>, local: &Name, variable: &Name) -> Instruction
     }
 }
 
-/// The instruction that stores a value in a variable.
+// The instruction that stores a value in a variable.
 fn store(names: Names<'_>, variable: &Name, value: &Operand) -> Instruction
     ensures { result ≡ Instruction.Store
         (variable_number (names_of names.entry) (name_view variable.now))
@@ -45,7 +46,7 @@ fn store(names: Names<'_>, variable: &Name, value: &Operand) -> Instruction
     }
 }
 
-/// The instruction that adds a value to a variable.
+// The instruction that adds a value to a variable, and sets a local to the variable's old value.
 fn add(names: Names<'_>, local: &Name, variable: &Name, value: &Operand) -> Instruction
     ensures { result ≡ Instruction.Add
         (local_number (names_of names.entry) (name_view local.now))
@@ -59,7 +60,7 @@ fn add(names: Names<'_>, local: &Name, variable: &Name, value: &Operand) -> Inst
     }
 }
 
-/// The instruction that compares a variable and sets it.
+// The instruction that sets a variable to `new` where it is `expected`, and a local to 1 or else 0.
 fn cas(
     names: Names<'_>,
     local: &Name,
@@ -81,7 +82,7 @@ fn cas(
     }
 }
 
-/// The instruction that waits on a condition with a mutex.
+// The instruction that gives up a mutex and waits for a condition.
 fn wait(names: Names<'_>, condition: &Name, mutex: &Name) -> Instruction
     ensures { result ≡ Instruction.Wait
         (condition_number (names_of names.entry) (name_view condition.now))
@@ -93,7 +94,7 @@ fn wait(names: Names<'_>, condition: &Name, mutex: &Name) -> Instruction
     }
 }
 
-/// The instruction that sets a local.
+// The instruction that sets a local to the value of an expression.
 fn set(names: Names<'_>, local: &Name, value: &Expr) -> Instruction
     ensures { result ≡ Instruction.Set (local_number (names_of names.entry) (name_view local.now))
         (expression_of (names_of names.entry) (expr_view value.now)) }
@@ -104,15 +105,15 @@ fn set(names: Names<'_>, local: &Name, value: &Expr) -> Instruction
     }
 }
 
-/// Adds one more instruction.
-fn put(code: &mut Vec<Instruction>, instruction: Instruction) -> Result<(), AllocError>
+// Adds an instruction at the end of `code`.
+fn push(code: &mut Vec<Instruction>, instruction: Instruction) -> Result<(), AllocError>
     ensures { Adds result code.old code.new (instruction ∷ []) }
 {
     code.push(instruction)?;
     Ok(())
 }
 
-/// Adds the code of a statement, which has no more instructions than the limit.
+// Adds the code of a statement, which has no more instructions than the limit.
 #[cycle(emit)]
 fn emit_statement(
     code: &mut Vec<Instruction>,
@@ -125,28 +126,28 @@ fn emit_statement(
 {
     let names = context.names;
     match statement {
-        Statement::Load { local, variable } => put(code, load(names, local, variable)),
-        Statement::Store { variable, value } => put(code, store(names, variable, value)),
+        Statement::Load { local, variable } => push(code, load(names, local, variable)),
+        Statement::Store { variable, value } => push(code, store(names, variable, value)),
         Statement::Add {
             local,
             variable,
             value,
-        } => put(code, add(names, local, variable, value)),
+        } => push(code, add(names, local, variable, value)),
         Statement::Cas {
             local,
             variable,
             expected,
             new,
-        } => put(code, cas(names, local, variable, expected, new)),
-        Statement::Lock(name) => put(code, Instruction::Lock(names.mutex(name))),
-        Statement::Unlock(name) => put(code, Instruction::Unlock(names.mutex(name))),
-        Statement::Wait { condition, mutex } => put(code, wait(names, condition, mutex)),
-        Statement::Signal(name) => put(code, Instruction::Signal(names.condition(name))),
-        Statement::Broadcast(name) => put(code, Instruction::Broadcast(names.condition(name))),
-        Statement::Acquire(name) => put(code, Instruction::Acquire(names.semaphore(name))),
-        Statement::Release(name) => put(code, Instruction::Release(names.semaphore(name))),
-        Statement::Set { local, value } => put(code, set(names, local, value)),
-        Statement::Assert(test) => put(code, Instruction::Assert(names.expression(test))),
+        } => push(code, cas(names, local, variable, expected, new)),
+        Statement::Lock(name) => push(code, Instruction::Lock(names.mutex(name))),
+        Statement::Unlock(name) => push(code, Instruction::Unlock(names.mutex(name))),
+        Statement::Wait { condition, mutex } => push(code, wait(names, condition, mutex)),
+        Statement::Signal(name) => push(code, Instruction::Signal(names.condition(name))),
+        Statement::Broadcast(name) => push(code, Instruction::Broadcast(names.condition(name))),
+        Statement::Acquire(name) => push(code, Instruction::Acquire(names.semaphore(name))),
+        Statement::Release(name) => push(code, Instruction::Release(names.semaphore(name))),
+        Statement::Set { local, value } => push(code, set(names, local, value)),
+        Statement::Assert(test) => push(code, Instruction::Assert(names.expression(test))),
         Statement::If {
             test,
             then,
@@ -156,11 +157,11 @@ fn emit_statement(
             Some(other) => emit_choice(code, context, test, then, other),
         },
         Statement::Repeat { times, body } => emit_copies(code, names, body, *times),
-        Statement::Leave => put(code, Instruction::Skip(context.distance_to_exit)),
+        Statement::Leave => push(code, Instruction::Skip(context.distance_to_exit)),
     }
 }
 
-/// Adds the code of an `if` with no `else`.
+// Adds the code of an `if` with no `else`.
 #[cycle(emit)]
 fn emit_if(
     code: &mut Vec<Instruction>,
@@ -174,14 +175,14 @@ fn emit_if(
         (stmt_code_in context.entry (if_then (expr_view test.now) (block_view then.now))) }
 {
     let over = size_of_block(then);
-    put(
+    push(
         code,
         Instruction::SkipIfZero(context.names.expression(test), over),
     )?;
     emit_block(code, context, then)
 }
 
-/// Adds the code of an `if` with an `else`.
+// Adds the code of an `if` with an `else`.
 #[cycle(emit)]
 fn emit_choice(
     code: &mut Vec<Instruction>,
@@ -199,7 +200,7 @@ fn emit_choice(
     // The test passes over the skip too.
     let over = size_of_block(then) + 1;
     let len = size_of_block(other);
-    put(
+    push(
         code,
         Instruction::SkipIfZero(context.names.expression(test), over),
     )?;
@@ -208,11 +209,11 @@ fn emit_choice(
         distance_to_exit: context.distance_to_exit + 1 + len,
     };
     emit_block(code, farther, then)?;
-    put(code, Instruction::Skip(len))?;
+    push(code, Instruction::Skip(len))?;
     emit_block(code, context, other)
 }
 
-/// Adds copies of a block. Copies of an empty block cost no time.
+// Adds the code of `times` copies of a block. Copies of an empty block cost no time.
 #[cycle(emit)]
 fn emit_copies(
     code: &mut Vec<Instruction>,

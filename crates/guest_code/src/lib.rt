@@ -15,16 +15,16 @@
 //! - A program keeps every limit of [`limits`], each number of an object or a local in its code is
 //!   in range, and each jump is within its code ([`laws::programs_are_well_formed`], by
 //!   `IsWellFormed` of `specs/Program.antt`).
-//! - The [`source_map::SourceMap`] of a tree has for each instruction of its program the place of the
-//!   statement that it was made of, and for each local its name. The places of a thread are in its
-//!   text ([`laws::places_are_in_their_threads`]).
+//! - The [`source_map::SourceMap`] of a tree has for each instruction of its program the place of
+//!   the statement that it was made of, and for each local its name. The places of a thread are in
+//!   its text ([`laws::places_are_in_their_threads`]).
 //! - Programs are equal exactly where all that is seen of them is ([`program::Program::is_same`]).
 #![tactic(auto)]
 
 mod check;
 mod emit;
 pub mod error;
-mod kinds;
+pub mod kinds;
 pub mod laws;
 mod lengths;
 pub mod limits;

@@ -17,7 +17,7 @@ use crate::program::{Program, Semaphore, Thread, Variable};
 use guest_syntax::tree::{Declaration, Name, Object, Thread as ThreadTree, Tree};
 use std::alloc::{AllocError, Global};
 
-/// A variable of this name.
+// A variable with a copy of a name.
 fn variable(alloc: Global, name: &Name, opening: i64) -> Result<Variable, AllocError>
     ensures { IfOk result
         (λ v. variable_view v ≡ record { name = name.now.text.items; opening = opening }) }
@@ -26,7 +26,7 @@ fn variable(alloc: Global, name: &Name, opening: i64) -> Result<Variable, AllocE
     Ok(Variable { name, opening })
 }
 
-/// A semaphore of this name.
+// A semaphore with a copy of a name.
 fn semaphore(alloc: Global, name: &Name, count: u16) -> Result<Semaphore, AllocError>
     ensures same { IfOk result
         (λ s. semaphore_view s ≡ record { name = name.now.text.items; count = count }) }
@@ -36,7 +36,7 @@ fn semaphore(alloc: Global, name: &Name, count: u16) -> Result<Semaphore, AllocE
     Ok(Semaphore { name, count })
 }
 
-/// The variables among these declarations.
+// The variables among these declarations.
 fn lower_variables(alloc: Global, declarations: &[Declaration]) -> Result<Vec<Variable>, AllocError>
     ensures { IfOk result (λ v. variables_view v ≡ objects_in variable_of declarations.now) }
 {
@@ -49,7 +49,7 @@ fn lower_variables(alloc: Global, declarations: &[Declaration]) -> Result<Vec<Va
     Ok(all)
 }
 
-/// The mutexes among these declarations.
+// The mutexes among these declarations.
 fn lower_mutexes(alloc: Global, declarations: &[Declaration]) -> Result<Vec<Vec<u8>>, AllocError>
     ensures { IfOk result (λ v. names_view v.items ≡ objects_in mutex_of declarations.now) }
 {
@@ -62,7 +62,7 @@ fn lower_mutexes(alloc: Global, declarations: &[Declaration]) -> Result<Vec<Vec<
     Ok(all)
 }
 
-/// The conditions among these declarations.
+// The conditions among these declarations.
 fn lower_conditions(alloc: Global, declarations: &[Declaration]) -> Result<Vec<Vec<u8>>, AllocError>
     ensures { IfOk result (λ v. names_view v.items ≡ objects_in condition_of declarations.now) }
 {
@@ -75,7 +75,7 @@ fn lower_conditions(alloc: Global, declarations: &[Declaration]) -> Result<Vec<V
     Ok(all)
 }
 
-/// The semaphores among these declarations.
+// The semaphores among these declarations.
 fn lower_semaphores(
     alloc: Global,
     declarations: &[Declaration],
@@ -92,7 +92,7 @@ fn lower_semaphores(
     Ok(all)
 }
 
-/// The code of a thread that is not too long, with these locals.
+// A program's thread, from a thread of a tree that is not too long and whose locals are `locals`.
 fn lower_thread(
     alloc: Global,
     declarations: &[Declaration],
@@ -119,7 +119,7 @@ fn lower_thread(
     })
 }
 
-/// The code of threads of which none is too long, with the locals of each.
+// A program's threads, from a tree's threads, none of them too long; `locals` has those of each.
 fn lower_threads(
     alloc: Global,
     declarations: &[Declaration],

@@ -18,7 +18,7 @@ pub struct Names<'a> {
     pub locals: &'a [Vec<u8>],
 }
 
-/// The number of an object among those of its kind.
+// The number of the object of a name among the objects of `kind` that `declarations` declare.
 fn index_of_object(declarations: &[Declaration], kind: NameKind, name: &[u8]) -> usize
     ensures { result ≡ object_index kind (map declaration_view declarations.now) name.now }
 {
@@ -34,7 +34,7 @@ fn index_of_object(declarations: &[Declaration], kind: NameKind, name: &[u8]) ->
     index
 }
 
-/// The number of a local.
+// The number of the local of a name among `locals`.
 fn index_of_local(locals: &[Vec<u8>], name: &[u8]) -> usize
     ensures { result ≡ local_index (names_view locals.now) name.now }
 {

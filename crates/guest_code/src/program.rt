@@ -19,9 +19,9 @@ pub enum Value {
 /// A value alone, or two with an operator between them.
 #[derive(Clone, Copy, Debug, PartialEq, Eq)]
 pub enum Expression {
-    /// The value itself.
+    /// A value alone.
     Single(Value),
-    /// What the operator makes of the two.
+    /// What the operator makes of the two values.
     Both(Value, Op, Value),
 }
 
@@ -39,8 +39,8 @@ pub enum Instruction {
         variable: usize,
         value: Value,
     },
-    /// The local becomes the variable's value, and the variable becomes that value plus this one,
-    /// in one step. The value is read before the local is written.
+    /// The local becomes the variable's value, and the variable becomes that value plus `value`, in
+    /// one step. `value` is read before the local is written.
     Add {
         local: usize,
         variable: usize,
@@ -88,29 +88,29 @@ pub enum Instruction {
 /// A variable's name and opening value.
 #[derive(Debug, PartialEq, Eq, Drop)]
 pub struct Variable {
-    /// As the text spells it.
+    /// The name, as the text spells it.
     pub name: Vec<u8>,
-    /// Its value before the first step.
+    /// The variable's value before the first step.
     pub opening: i64,
 }
 
 /// A semaphore's name and opening count.
 #[derive(Debug, PartialEq, Eq, Drop)]
 pub struct Semaphore {
-    /// As the text spells it.
+    /// The name, as the text spells it.
     pub name: Vec<u8>,
-    /// Its count before the first step, at most `COUNT`.
+    /// The semaphore's count before the first step, at most `COUNT`.
     pub count: u16,
 }
 
 /// A thread's name, how many locals it has, and its code.
 #[derive(Debug, PartialEq, Eq, Drop)]
 pub struct Thread {
-    /// As the text spells it.
+    /// The name, as the text spells it.
     pub name: Vec<u8>,
-    /// How many locals it has, at most `LOCALS`.
+    /// How many locals the thread has, at most `LOCALS`.
     pub locals: usize,
-    /// At most `INSTRUCTIONS`, all jumps forwards and within it.
+    /// At most `INSTRUCTIONS` instructions, all jumps forwards and within the code.
     pub code: Vec<Instruction>,
 }
 
@@ -143,7 +143,7 @@ impl PartialEq for Program {
 
     ghost laws = { programs_partial_equivalence };
 
-    /// Whether all that the two hold is equal, names included.
+    /// Whether all that two programs hold is equal, names included.
     fn eq(&self, other: &Program) -> bool {
         self.variables == other.variables
             && self.mutexes == other.mutexes
@@ -180,21 +180,21 @@ impl Program {
         }
     }
 
-    /// Whether all that the two hold is equal, names included.
+    /// Whether all that two programs hold is equal, names included.
     pub fn is_same(&self, other: &Program) -> bool
         ensures { IsTrue result ↔ (self.now ≡ other.now) }
     {
         *self == *other
     }
 
-    /// It keeps every limit, and each number in its code is in range. Does nothing.
+    /// Does nothing. Its contract: every limit is kept, and each number in the code is in range.
     pub fn keeps_limits(&self)
         ensures { IsWellFormed self.now }
     {
         let _ = &self.threads;
     }
 
-    /// How many threads it has, 1 to `THREADS`.
+    /// How many threads the program has, 1 to `THREADS`.
     pub fn threads(&self) -> u8
         ensures number { result ≡ length self.now.threads }
         ensures few { result ≤ THREADS }
@@ -202,7 +202,7 @@ impl Program {
         self.threads.len() as u8
     }
 
-    /// How many variables it has, at most `VARIABLES`.
+    /// How many variables the program has, at most `VARIABLES`.
     pub fn variables(&self) -> u8
         ensures number { result ≡ length self.now.variables }
         ensures few { result ≤ VARIABLES }
@@ -210,7 +210,7 @@ impl Program {
         self.variables.len() as u8
     }
 
-    /// How many mutexes it has, at most `OBJECTS`.
+    /// How many mutexes the program has, at most `OBJECTS`.
     pub fn mutexes(&self) -> u8
         ensures number { result ≡ length self.now.mutexes }
         ensures few { result ≤ OBJECTS }
@@ -218,7 +218,7 @@ impl Program {
         self.mutexes.len() as u8
     }
 
-    /// How many conditions it has, at most `OBJECTS`.
+    /// How many conditions the program has, at most `OBJECTS`.
     pub fn conditions(&self) -> u8
         ensures number { result ≡ length self.now.conditions }
         ensures few { result ≤ OBJECTS }
@@ -226,7 +226,7 @@ impl Program {
         self.conditions.len() as u8
     }
 
-    /// How many semaphores it has, at most `OBJECTS`.
+    /// How many semaphores the program has, at most `OBJECTS`.
     pub fn semaphores(&self) -> u8
         ensures number { result ≡ length self.now.semaphores }
         ensures few { result ≤ OBJECTS }

@@ -16,7 +16,7 @@ use std::alloc::{AllocError, Global};
 use std::marker::Model;
 
 /// For each instruction of a program the place of the statement that it was made of, and the names
-/// of its threads' locals. It is apart from the program: two texts that differ in their layout
+/// of its threads' locals. A map is apart from its program: two texts that differ in their layout
 /// alone have one program.
 #[derive(Debug, Drop)]
 pub struct SourceMap {
@@ -33,8 +33,8 @@ impl Model for SourceMap {
     ghost view = { λ m. source_map_view m.places m.locals };
 }
 
-/// Adds the places of a statement's instructions. Those of an `if` are its test and, where it has an
-/// `else`, the skip after its first block.
+// Adds the places of a statement's instructions. Those of an `if` are its test and, where it has an
+// `else`, the skip after its first block.
 #[cycle(places)]
 fn place_statement(places: &mut Vec<Pos>, placed: &Placed) -> Result<(), AllocError>
     ensures { OnOk result (places.new.items
@@ -59,7 +59,7 @@ fn place_statement(places: &mut Vec<Pos>, placed: &Placed) -> Result<(), AllocEr
     }
 }
 
-/// Adds the places of copies of a block. Copies of an empty block cost no time.
+// Adds the places of the instructions of `times` copies of a block. Empty copies cost no time.
 #[cycle(places)]
 fn place_copies(places: &mut Vec<Pos>, body: &[Placed], times: u8) -> Result<(), AllocError>
     ensures { OnOk result (places.new.items
@@ -76,7 +76,7 @@ fn place_copies(places: &mut Vec<Pos>, body: &[Placed], times: u8) -> Result<(),
     Ok(())
 }
 
-/// Adds the places of a block's instructions.
+// Adds the places of a block's instructions.
 #[cycle(places)]
 fn place_block(places: &mut Vec<Pos>, block: &[Placed]) -> Result<(), AllocError>
     ensures { OnOk result (places.new.items

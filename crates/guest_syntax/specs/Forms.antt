@@ -57,7 +57,7 @@ IsLiteral z ts rest =
     (n : ℕ) × (((z ≡ pos n) × IsNumber NUMBER n ts rest) ⊎
     ((z ≡ pos 0 -ℤ pos n) × (IsSymbol symbols.Minus then IsNumber NUMBER n) ts rest))
 
--- one after the other
+-- the forms of a list's elements, one after the other
 abbrev pub each : {A : Type 0} → (A → Form) → List A → Form
 each F [] ts rest = ts ≡ rest
 each F (x ∷ xs) ts rest = (F x then each F xs) ts rest

@@ -16,7 +16,7 @@ abbrev pub IsGapBefore : List ℕ → List ℕ → Type 0
 IsGapBefore gap [] = IsSome (blank false gap)
 IsGapBefore gap (b ∷ bs) = (blank false gap ≡ Some false) × (blank false (b ∷ []) ≡ None)
 
--- a token, the longest that begins here
+-- a token, the longest that the text and the rest begin with
 abbrev pub IsWhole : List ℕ → List ℕ → Type 0
 IsWhole text rest = (k : TokenKind) × Spelling k text × IsLongest text rest
 
@@ -45,17 +45,17 @@ GivesPiece s r t = MatchOption r
 abbrev pub is_mark : List ℕ → Piece → Bool
 is_mark mark p = bytes_eq p.text.now mark
 
--- how many blocks are open after a piece, where this many were before it
+-- how many blocks are open after a piece, where n were before; none where it closes no open block
 abbrev pub open_after : Piece → ℕ → Option ℕ
 open_after p n = if is_mark (codes "{") p then Some (n + 1)
     else (if is_mark (codes "}") p then (if n == 0 then None else Some (n - 1)) else Some n)
 
--- the same after several; none where one closes a block that isn't open
+-- how many blocks are open after several pieces; none where one of them closes no open block
 abbrev pub all_open_after : List Piece → ℕ → Option ℕ
 all_open_after [] n = Some n
 all_open_after (p ∷ ps) n = option_and_then (all_open_after ps) (open_after p n)
 
--- up to the piece of this number, which closes a block, each block is closed that is opened, and no
+-- the piece of number n closes a block, and before it each block is closed that is opened, and no
 -- other
 pub record ClosesAt (ps : List Piece) (n : ℕ) : Type 0 where
   pub inside : List Piece

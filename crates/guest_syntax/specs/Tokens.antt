@@ -81,7 +81,7 @@ IsIdentifier (b ∷ bs) = IsTrue (is_letter b) × IsTrue (list_all is_name_byte 
 abbrev pub value : List ℕ → ℕ
 value bs = fold (λ n b. 10 * n + (b - 48)) 0 bs
 
--- numbers from 2^64 - 1 on all count as that
+-- these bytes spell the token; numbers from 2^64 - 1 on all count as 2^64 - 1
 abbrev pub Spelling : TokenKind → List ℕ → Type 0
 Spelling (name s) bs = (bs ≡ s) × IsIdentifier s × ((w : Keyword) → s ≢ keyword_text w)
 Spelling (keyword w) bs = bs ≡ keyword_text w

@@ -11,12 +11,13 @@ use crate::cursor::Cursor;
 use crate::error::SyntaxError;
 use crate::expressions::expr;
 use crate::place::Pos;
-use crate::statements::simple;
+use crate::statements::simple_statement;
 use crate::token::{Keyword, Symbol, TokenKind};
 use crate::tokens::{symbol, times, token};
 use crate::tree::{Placed, Statement};
 use std::alloc::Global;
 
+// Whether a token is the keyword `else`.
 #[tactic(auto, unfolding(crate::specs::reader::Statements::is_else))]
 fn is_else(kind: TokenKind) -> bool
     ensures { result ≡ is_else (kind_view kind.entry) }
@@ -24,6 +25,7 @@ fn is_else(kind: TokenKind) -> bool
     matches!(kind, TokenKind::Keyword(Keyword::Else))
 }
 
+// The rest of an `if`, after its keyword, in which at most `room` blocks may be inside one another.
 #[tactic(auto, unfolding(crate::specs::reader::Statements::choice_from))]
 #[cycle(block)]
 fn choice<'a>(
@@ -40,26 +42,22 @@ fn choice<'a>(
     let (token, after) = token(text)?;
     if is_else(token.kind) {
         let (otherwise, text) = block(alloc, after, room)?;
-        let otherwise = Some(otherwise);
-        return Ok((
-            Statement::If {
-                test,
-                then,
-                otherwise,
-            },
-            text,
-        ));
-    }
-    Ok((
-        Statement::If {
+        let statement = Statement::If {
             test,
             then,
-            otherwise: None,
-        },
-        text,
-    ))
+            otherwise: Some(otherwise),
+        };
+        return Ok((statement, text));
+    }
+    let statement = Statement::If {
+        test,
+        then,
+        otherwise: None,
+    };
+    Ok((statement, text))
 }
 
+// The rest of a `repeat`, after its keyword, with blocks at most `room` deep.
 #[tactic(auto, unfolding(crate::specs::reader::Statements::repeat_from))]
 #[cycle(block)]
 fn repetition<'a>(
@@ -74,7 +72,7 @@ fn repetition<'a>(
     Ok((Statement::Repeat { times, body }, text))
 }
 
-/// A statement after its keyword, which is at this place.
+// The rest of a statement, after its keyword, which is at `at`, with blocks at most `room` deep.
 #[cycle(block)]
 fn statement<'a>(
     alloc: Global,
@@ -89,14 +87,14 @@ fn statement<'a>(
     match keyword {
         Keyword::If => choice(alloc, text, room),
         Keyword::Repeat => repetition(alloc, text, room),
-        _ => simple(alloc, keyword, at, text),
+        _ => simple_statement(alloc, keyword, at, text),
     }
 }
 
-/// The next statement of a block, or its end.
+// The next statement of a block, with blocks at most `room` deep, or none at the closing brace.
 #[tactic(auto, unfolding(crate::specs::reader::Statements::turn_from))]
 #[cycle(block)]
-fn turn<'a>(
+fn next_statement<'a>(
     alloc: Global,
     text: Cursor<'a>,
     room: u32,
@@ -115,7 +113,7 @@ fn turn<'a>(
     }
 }
 
-/// The statements of a block and its closing brace.
+// A block after its opening brace: statements up to its closing brace, blocks at most `room` deep.
 #[cycle(block)]
 fn statements<'a>(
     alloc: Global,
@@ -130,7 +128,7 @@ fn statements<'a>(
     let mut all = Vec::new(alloc);
     let mut rest = text;
     'items: loop {
-        let (statement, after) = turn(alloc, rest, room)?;
+        let (statement, after) = next_statement(alloc, rest, room)?;
         rest = after;
         match statement {
             None => return Ok((all, rest)),
@@ -139,7 +137,7 @@ fn statements<'a>(
     }
 }
 
-/// A block, where this many blocks may be inside one another.
+/// A block with its braces, where at most `room` blocks may be inside one another, itself counted.
 #[tactic(auto, unfolding(crate::specs::reader::Statements::block_from))]
 #[cycle(block)]
 pub fn block<'a>(

@@ -15,8 +15,7 @@ pub enum SyntaxError {
     NotAscii(Pos),
     /// A byte that begins no token.
     BadChar(Pos),
-    /// A token, or the end of the text, where the grammar wants something else, and the number of
-    /// a `repeat 0`.
+    /// A token or the text's end, where the grammar wants something else; also the 0 of `repeat 0`.
     Expected(Pos),
     /// A number above its limit.
     NumberTooBig(Pos),

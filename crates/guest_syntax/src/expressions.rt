@@ -14,7 +14,7 @@ use crate::tokens::{number, token};
 use crate::tree::{Expr, Name, Op, Operand};
 use std::alloc::Global;
 
-/// A literal that begins with this token.
+// The literal that begins with `token`, which is read already, and the cursor after the literal.
 fn literal_after<'a>(token: Token, after: Cursor<'a>) -> Result<(i64, Cursor<'a>), SyntaxError>
     requires place { IsTokenOf after (token_view token) }
     ensures gives { Reads (λ x. x) result (literal_by (kind_view token.entry.kind)) after.entry }
@@ -32,7 +32,7 @@ fn literal_after<'a>(token: Token, after: Cursor<'a>) -> Result<(i64, Cursor<'a>
     }
 }
 
-/// A number, or a number after a minus.
+/// A number, or a minus and a number, and the cursor after it.
 #[tactic(auto, unfolding(crate::specs::reader::Expressions::literal_from))]
 pub fn literal<'a>(text: Cursor<'a>) -> Result<(i64, Cursor<'a>), SyntaxError>
     ensures { Parses (λ x. x) result literal_from text.entry }
@@ -41,7 +41,7 @@ pub fn literal<'a>(text: Cursor<'a>) -> Result<(i64, Cursor<'a>), SyntaxError>
     literal_after(token, after)
 }
 
-/// A local or a literal.
+/// A local or a literal, and the cursor after it.
 #[tactic(auto, unfolding(crate::specs::reader::Expressions::operand_from))]
 pub fn operand<'a>(alloc: Global, text: Cursor<'a>) -> Result<(Operand, Cursor<'a>), SyntaxError>
     ensures { Parses operand_view result operand_from text.entry }
@@ -55,7 +55,7 @@ pub fn operand<'a>(alloc: Global, text: Cursor<'a>) -> Result<(Operand, Cursor<'
     Ok((Operand::Literal(value), after))
 }
 
-/// The operator that a token is.
+// The operator of an expression that a token is, if any.
 fn op_of(kind: TokenKind) -> Option<Op>
     ensures { result ≡ op_of (kind_view kind.entry) }
 {
@@ -73,7 +73,7 @@ fn op_of(kind: TokenKind) -> Option<Op>
     }
 }
 
-/// An operand, or two with an operator between them.
+/// An operand, or two with an operator between them, and the cursor after the expression.
 #[tactic(auto, unfolding(crate::specs::reader::Expressions::expr_from))]
 pub fn expr<'a>(alloc: Global, text: Cursor<'a>) -> Result<(Expr, Cursor<'a>), SyntaxError>
     ensures { Parses expr_view result expr_from text.entry }

@@ -12,13 +12,12 @@ pub fn one_tree()
     ensures { (text : List ℕ) (t u : model.Tree) → Spells text t → Spells text u → t ≡ u }
 {}
 
-/// Each statement of a thread is after the thread's name and before the names of the threads after
-/// it.
+/// Each statement of a thread is after the thread's name and before the names of later threads.
 pub fn statements_are_in_their_threads()
     ensures { (text : List ℕ) (t : model.Tree) → Spells text t → AreInThreads t.threads }
 {}
 
-/// The number of each limit.
+/// Each limit of a text is the number that its clause gives.
 pub fn limits_are()
     ensures text_bytes { TEXT_BYTES ≡ 65536 }
     ensures depth { DEPTH ≡ 32 }

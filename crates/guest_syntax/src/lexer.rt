@@ -17,32 +17,36 @@ use crate::error::SyntaxError;
 use crate::place::Pos;
 use crate::token::{KEYWORDS, Keyword, SYMBOLS, Symbol, Token, TokenKind};
 
+// Whether a byte is a space, a tab, a line feed or a carriage return.
 fn is_space(byte: u8) -> bool
     ensures { result ≡ is_space byte }
 {
     byte == b' ' || byte == b'\t' || byte == b'\n' || byte == b'\r'
 }
 
+// Whether a byte is an ASCII letter or `_`: the first byte of a name or a keyword.
 fn is_letter(byte: u8) -> bool
     ensures { result ≡ is_letter byte }
 {
     byte.is_ascii_alphabetic() || byte == b'_'
 }
 
+// Whether a byte is an ASCII digit.
 fn is_digit(byte: u8) -> bool
     ensures { result ≡ is_digit byte }
 {
     byte.is_ascii_digit()
 }
 
+// Whether a byte may stand in a name after the first: an ASCII letter, `_` or a digit.
 fn is_name_byte(byte: u8) -> bool
     ensures { result ≡ is_name_byte byte }
 {
     is_letter(byte) || is_digit(byte)
 }
 
-/// Whether a comment goes on after a byte, where one does before it or not; nothing where the byte
-/// is neither blank nor in a comment.
+/// Whether a comment goes on after a byte, where `comment` tells whether one goes on before it;
+/// none where the byte is neither blank nor in a comment.
 pub fn blank_after(comment: bool, byte: u8) -> Option<bool>
     ensures { result ≡ blank comment (byte ∷ []) }
 {
@@ -57,8 +61,8 @@ pub fn blank_after(comment: bool, byte: u8) -> Option<bool>
     }
 }
 
-/// Passes over spaces and comments.
-fn skip<'a>(text: &'a [u8], start: Pos) -> Result<(Pos, &'a [u8]), SyntaxError>
+// The place after the leading spaces and comments of a text at `start`, and the rest of the text.
+fn skip_blank_bytes<'a>(text: &'a [u8], start: Pos) -> Result<(Pos, &'a [u8]), SyntaxError>
     requires line { start.line + length text.now < 2 ^ 32 }
     requires col { start.col + length text.now < 2 ^ 32 }
     ensures gives { Gives (λ x. (x.0, x.1.now)) result (skipped false start text.now) }
@@ -81,19 +85,19 @@ fn skip<'a>(text: &'a [u8], start: Pos) -> Result<(Pos, &'a [u8]), SyntaxError>
     Ok((at, &text[text.len()..]))
 }
 
-/// The cursor after spaces and comments.
+// The cursor after the spaces and comments that come next.
 fn skip_blanks<'a>(text: Cursor<'a>) -> Result<Cursor<'a>, SyntaxError>
     ensures gives { Gives (λ x. (x.at, x.rest.now)) result
         (skipped false text.entry.at text.entry.rest.now) }
     ensures same { IfOk result (λ x. x.text.now ≡ text.entry.text.now) }
     ensures refused { IfErr result (RefusalIn place.start text.entry.text.now) }
 {
-    let (at, rest) = skip(text.rest, text.at)?;
+    let (at, rest) = skip_blank_bytes(text.rest, text.at)?;
     let text = text.text;
     Ok(Cursor { text, rest, at })
 }
 
-/// The cursor this many bytes further on.
+/// The cursor `len` bytes further on.
 pub fn advance<'a>(text: Cursor<'a>, len: usize) -> Cursor<'a>
     requires { len ≤ length text.rest.now }
     ensures rest { result.rest.now ≡ drop len text.entry.rest.now }
@@ -106,12 +110,14 @@ pub fn advance<'a>(text: Cursor<'a>, len: usize) -> Cursor<'a>
     Cursor { text, rest, at }
 }
 
+// The keyword among `keywords` that is written as `text`, if any.
 fn keyword_in(keywords: &[Keyword], text: &[u8]) -> Option<Keyword>
     ensures { result ≡ find (λ w. bytes_eq (keyword_text w) text.now) keywords.now }
 {
     keywords.iter().copied().find(|w| w.text() == text)
 }
 
+// What a word is: the keyword that is written so, or else a name.
 fn keyword_or_name(text: &[u8]) -> TokenKind<'_>
     ensures { kind_view result ≡ name_or_keyword text.now }
 {
@@ -121,7 +127,7 @@ fn keyword_or_name(text: &[u8]) -> TokenKind<'_>
     }
 }
 
-/// The value of digits. Those above the largest number all count as that one.
+// The value of decimal digits; 2^64 - 1 for every number above that.
 fn number(digits: &[u8]) -> u64
     ensures { result ≡ capped digits.now }
 {
@@ -133,31 +139,35 @@ fn number(digits: &[u8]) -> u64
     )
 }
 
+// The first of `symbols` that a text begins with, if any.
 fn symbol_in(symbols: &[Symbol], text: &[u8]) -> Option<Symbol>
     ensures { result ≡ find (λ s. starts_with nat_eq text.now (symbol_text s)) symbols.now }
 {
     symbols.iter().copied().find(|s| text.starts_with(s.text()))
 }
 
+// The longest operator or mark that a text begins with, if any.
 fn symbol_at(text: &[u8]) -> Option<Symbol>
     ensures { result ≡ symbol_at text.now }
 {
     symbol_in(&SYMBOLS, text)
 }
 
+// How many bytes of a text come before the first that may not stand in a name.
 fn name_len(text: &[u8]) -> usize
     ensures { result ≡ prefix_len is_name_byte text.now }
 {
     text.iter().take_while(|b| is_name_byte(**b)).count()
 }
 
+// How many bytes of a text come before the first that is no digit.
 fn digits_len(text: &[u8]) -> usize
     ensures { result ≡ prefix_len is_digit text.now }
 {
     text.iter().take_while(|b| is_digit(**b)).count()
 }
 
-/// The token that begins with the first byte, and its length.
+/// The longest token that a text begins with, and its length in bytes; none where there is none.
 #[tactic(auto, unfolding(crate::specs::reader::Scanner::kind_at))]
 pub fn kind_at(text: &[u8]) -> Option<(TokenKind<'_>, usize)>
     requires { 0 < length text.now }
@@ -176,9 +186,9 @@ pub fn kind_at(text: &[u8]) -> Option<(TokenKind<'_>, usize)>
     }
 }
 
-/// The next token and what comes after it, or nothing and the end of the text.
+/// The next token, past spaces and comments, and the cursor after it; or none and the text's end.
 #[tactic(auto, unfolding(crate::specs::reader::Scanner::first))]
-pub fn first<'a>(text: Cursor<'a>) -> Result<(Option<Token<'a>>, Cursor<'a>), SyntaxError>
+pub fn first_token<'a>(text: Cursor<'a>) -> Result<(Option<Token<'a>>, Cursor<'a>), SyntaxError>
     ensures gives { Scans result text.entry }
     ensures end { IfOk result (λ x. x.0 ≡ None → x.1.rest.now ≡ []) }
     ensures within { StaysIn result text.entry }

@@ -1,22 +1,18 @@
 //! Texts of the guest language, and the trees that they spell.
 //!
-//! A guest text declares variables, mutexes, conditions and semaphores, and then threads with
-//! their statements. [`parse`] reads a text into a [`tree::Tree`], or answers its first fault and
-//! where it is. The grammar is in `specs/Grammar.antt`, as a relation between a text and a
-//! tree, `Spells`, which says nothing of how a text is read: which bytes are a token, that the
-//! longest token is taken, which tokens spell which tree, and every limit of `limits.rt`.
+//! A guest text declares variables, mutexes, conditions, semaphores, then threads with statements.
+//! [`parse`] reads a text into a [`tree::Tree`], or answers its first fault and where it is. The
+//! grammar, `Spells` in `specs/Grammar.antt`, relates a text to a tree and says nothing of how a
+//! text is read: what a token is, that the longest is taken, which tokens spell a tree, all limits.
 //!
-//! What [`parse`] promises of every text stands at its clauses: a tree is answered exactly where the
-//! text spells it, memory aside, and a refusal is so at its place. A text spells at most one tree
-//! ([`laws::one_tree`]), and each statement is in the text of its thread
+//! What [`parse`] promises of every text stands at its clauses: a tree is answered exactly where
+//! the text spells it, memory aside, and a refusal is so at its place. A text spells at most one
+//! tree ([`laws::one_tree`]), and each statement is in the text of its thread
 //! ([`laws::statements_are_in_their_threads`]). Reading ends, and reads no byte outside the text.
 //!
-//! [`pieces::Pieces`] gives the tokens also of a text that spells no tree.
-//!
-//! Which fault is the first, and which of the text's tokens it is at, is shown by tests.
-//!
-//! `specs/reader` models the reader of this crate. Only proofs need it: no public contract cites
-//! it.
+//! [`pieces::Pieces`] gives the tokens also of a text that spells no tree. Tests show which fault
+//! is the first, and at which of the text's tokens. `specs/reader` models the reader of this crate
+//! for proofs alone: no public contract cites a definition of `specs/reader`.
 #![tactic(auto)]
 
 mod blocks;

@@ -20,7 +20,7 @@ use crate::tokens::{name, next_token, number, symbol, token};
 use crate::tree::{Declaration, Object, Thread, Tree};
 use std::alloc::Global;
 
-/// A variable, after its keyword.
+// The rest of a variable's declaration, after `var`; the opening value is 0 where none is given.
 #[tactic(auto, unfolding(crate::specs::reader::Trees::variable_from))]
 fn variable<'a>(alloc: Global, text: Cursor<'a>) -> Result<(Declaration, Cursor<'a>), SyntaxError>
     ensures { Parses declaration_view result variable_from text.entry }
@@ -42,9 +42,9 @@ fn variable<'a>(alloc: Global, text: Cursor<'a>) -> Result<(Declaration, Cursor<
     }
 }
 
-/// An object without an opening value, after its keyword.
+// The rest of the declaration of an object without an opening value, after its keyword.
 #[tactic(auto, unfolding(crate::specs::reader::Trees::plain_from))]
-fn plain<'a>(
+fn plain_object<'a>(
     alloc: Global,
     object: Object,
     text: Cursor<'a>,
@@ -55,7 +55,7 @@ fn plain<'a>(
     Ok((Declaration { name, object }, text))
 }
 
-/// A semaphore, after its keyword.
+// The rest of a semaphore's declaration, after `sem`.
 #[tactic(auto, unfolding(crate::specs::reader::Trees::semaphore_from))]
 fn semaphore<'a>(alloc: Global, text: Cursor<'a>) -> Result<(Declaration, Cursor<'a>), SyntaxError>
     ensures { Parses declaration_view result semaphore_from text.entry }
@@ -68,9 +68,9 @@ fn semaphore<'a>(alloc: Global, text: Cursor<'a>) -> Result<(Declaration, Cursor
     Ok((Declaration { name, object }, text))
 }
 
-/// The next declaration, or nothing where something else comes.
+// The next declaration; none, and nothing is read, where something else comes.
 #[tactic(auto, unfolding(crate::specs::reader::Trees::declaration_turn))]
-fn declaration_turn<'a>(
+fn next_declaration<'a>(
     alloc: Global,
     text: Cursor<'a>,
 ) -> Result<(Option<Declaration>, Cursor<'a>), SyntaxError>
@@ -84,15 +84,15 @@ fn declaration_turn<'a>(
     };
     let (declaration, after) = match token.kind {
         TokenKind::Keyword(Keyword::Var) => variable(alloc, after)?,
-        TokenKind::Keyword(Keyword::Mutex) => plain(alloc, Object::Mutex, after)?,
-        TokenKind::Keyword(Keyword::Cond) => plain(alloc, Object::Condition, after)?,
+        TokenKind::Keyword(Keyword::Mutex) => plain_object(alloc, Object::Mutex, after)?,
+        TokenKind::Keyword(Keyword::Cond) => plain_object(alloc, Object::Condition, after)?,
         TokenKind::Keyword(Keyword::Sem) => semaphore(alloc, after)?,
         _ => return Ok((None, text)),
     };
     Ok((Some(declaration), after))
 }
 
-/// The declarations, up to where something else comes.
+// All declarations that come next, up to something else.
 fn declarations<'a>(
     alloc: Global,
     text: Cursor<'a>,
@@ -104,7 +104,7 @@ fn declarations<'a>(
     let mut all = Vec::new(alloc);
     let mut rest = text;
     'items: loop {
-        let (declaration, after) = declaration_turn(alloc, rest)?;
+        let (declaration, after) = next_declaration(alloc, rest)?;
         rest = after;
         match declaration {
             None => return Ok((all, rest)),
@@ -113,7 +113,7 @@ fn declarations<'a>(
     }
 }
 
-/// A thread, after its keyword.
+// The rest of a thread, after `thread`: its name and its block.
 #[tactic(auto, unfolding(crate::specs::reader::Trees::thread_from))]
 fn thread<'a>(alloc: Global, text: Cursor<'a>) -> Result<(Thread, Cursor<'a>), SyntaxError>
     ensures { Parses thread_view result thread_from text.entry }
@@ -123,9 +123,9 @@ fn thread<'a>(alloc: Global, text: Cursor<'a>) -> Result<(Thread, Cursor<'a>), S
     Ok((Thread { name, body }, text))
 }
 
-/// The next thread, or nothing at the end of the text.
+// The next thread, or none at the end of the text; all else is refused.
 #[tactic(auto, unfolding(crate::specs::reader::Trees::thread_turn))]
-fn thread_turn<'a>(
+fn next_thread<'a>(
     alloc: Global,
     text: Cursor<'a>,
 ) -> Result<(Option<Thread>, Cursor<'a>), SyntaxError>
@@ -146,7 +146,7 @@ fn thread_turn<'a>(
     }
 }
 
-/// The threads, up to the end of the text.
+// All threads that come next, up to the end of the text.
 fn threads<'a>(alloc: Global, text: Cursor<'a>) -> Result<(Vec<Thread>, Cursor<'a>), SyntaxError>
     ensures gives { Reads (λ x. map thread_view x.items) result (all_from thread_turn) text.entry }
     ensures within { StaysIn result text.entry }
@@ -154,7 +154,7 @@ fn threads<'a>(alloc: Global, text: Cursor<'a>) -> Result<(Vec<Thread>, Cursor<'
     let mut all = Vec::new(alloc);
     let mut rest = text;
     'items: loop {
-        let (thread, after) = thread_turn(alloc, rest)?;
+        let (thread, after) = next_thread(alloc, rest)?;
         rest = after;
         match thread {
             None => return Ok((all, rest)),
@@ -163,7 +163,7 @@ fn threads<'a>(alloc: Global, text: Cursor<'a>) -> Result<(Vec<Thread>, Cursor<'
     }
 }
 
-/// The whole of a text.
+/// The tree of a whole text: declarations, and then threads up to the end.
 #[tactic(auto, unfolding(crate::specs::reader::Trees::tree_from))]
 pub fn tree(alloc: Global, text: Cursor) -> Result<Tree, SyntaxError>
     ensures gives { Gives tree_view result (tree_from (rest_of text.entry)) }

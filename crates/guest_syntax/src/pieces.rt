@@ -10,25 +10,23 @@ use crate::lexer::{advance, blank_after, kind_at};
 use crate::limits::TEXT_BYTES;
 use crate::place::Pos;
 
-/// A token, or a byte that begins none.
+/// A token, or a byte with which no token begins.
 #[derive(Clone, Copy, Debug)]
 pub struct Piece<'a> {
-    /// Its bytes.
+    /// The piece's bytes.
     pub text: &'a [u8],
-    /// The place of the first.
+    /// The place of the piece's first byte.
     pub at: Pos,
 }
 
-/// What is left of a text. It goes on where no token begins: pieces are tokens, each the longest
-/// that begins where it is, and single bytes with which none begins.
+/// What is left of a text, to be cut into pieces: longest tokens, and bytes that begin no token.
 #[derive(Drop)]
 pub struct Pieces<'a> {
     left: Cursor<'a>,
 }
 
 impl<'a> Pieces<'a> {
-    /// The pieces of a text; of one of more than [`TEXT_BYTES`](crate::TEXT_BYTES) bytes, those of
-    /// as many.
+    /// The pieces of a text, or of its first [`TEXT_BYTES`](crate::TEXT_BYTES) bytes if longer.
     #[tactic(auto, using(std::proofs::lemmas::List::take_min))]
     pub fn new(text: &'a [u8]) -> Pieces<'a>
         ensures rest { result.left.rest.now ≡ take TEXT_BYTES text.now }
@@ -41,7 +39,7 @@ impl<'a> Pieces<'a> {
     }
 }
 
-/// How many bytes of blanks and comments come first.
+// How many bytes of spaces and comments a text begins with.
 fn gap_len(text: &[u8]) -> usize
     ensures within { result ≤ length text.now }
     ensures gap { IsGapBefore (take result text.now) (drop result text.now) }
@@ -56,7 +54,7 @@ fn gap_len(text: &[u8]) -> usize
     text.len()
 }
 
-/// How many bytes the token has that begins here; 1 where none does.
+// How many bytes the token has that a text begins with; 1 where the text begins with no token.
 fn piece_len(text: &[u8]) -> usize
     requires { 0 < length text.now }
     ensures some { 0 < result }
@@ -96,8 +94,7 @@ impl<'a> Iterator for Pieces<'a> {
     }
 }
 
-/// How many blocks are open after a piece, where this many were before it; none where it closes one
-/// that isn't open.
+// How many blocks are open after a piece, if `depth` are before it; none if it closes no open one.
 fn open_after(piece: &Piece<'_>, depth: usize) -> Option<usize>
     requires { depth + 1 < 2 ^ 64 }
     ensures is { result ≡ open_after piece.now depth }
@@ -112,9 +109,8 @@ fn open_after(piece: &Piece<'_>, depth: usize) -> Option<usize>
     }
 }
 
-/// How many of these pieces come before the `}` that closes the block that they are in; none where
-/// nothing closes it.
-pub fn closing(pieces: &[Piece<'_>]) -> Option<usize>
+/// The index of the `}` that closes the block in which `pieces` begin; none where that stays open.
+pub fn closing_brace(pieces: &[Piece<'_>]) -> Option<usize>
     ensures found { IfSome result (ClosesAt pieces.now) }
     ensures none { result ≡ None → (n : ℕ) → ClosesAt pieces.now n → ⊥ }
 {

@@ -5,17 +5,17 @@ ghost use Rattle.guest_syntax.specs.Place.{past, after};
 
 use std::fmt;
 
-/// A place in a text. Lines and columns count bytes from 1; a line feed ends a line.
+/// A place in a text: a line and a byte of that line, both counted from 1. A line feed ends a line.
 #[derive(Clone, Copy, Debug, PartialEq, Eq)]
 pub struct Pos {
-    /// The line, from 1.
+    /// The line's number, from 1.
     pub line: u32,
-    /// The byte in its line, from 1.
+    /// The byte's number in its line, from 1.
     pub col: u32,
 }
 
 impl Pos {
-    /// The place after a byte that is here.
+    /// The place after a byte that is at this place.
     #[tactic(auto, unfolding(crate::specs::Place::past))]
     pub(crate) fn past(self, byte: u8) -> Pos
         requires line { self.line + 1 < 2 ^ 32 }
@@ -37,7 +37,7 @@ impl Pos {
         }
     }
 
-    /// The place after bytes that are here.
+    /// The place after bytes of which the first is at this place.
     pub(crate) fn after(self, bytes: &[u8]) -> Pos
         requires line { self.line + length bytes.now < 2 ^ 32 }
         requires col { self.col + length bytes.now < 2 ^ 32 }

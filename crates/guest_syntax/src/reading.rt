@@ -31,9 +31,8 @@ pub fn parse(alloc: Global, text: &[u8]) -> Result<Tree, SyntaxError>
     // A text that is refused, other than because memory ran out, spells nothing.
     ensures refused { IfErr result (λ e. e ≢ OutOfMemory → (t : model.Tree) → Spells text.now t
         → ⊥) }
-    // What a refusal says is so at its place in the text: a byte above 127, a byte that begins no
-    // token, a number above the least limit, an opening brace, or some token or the end; that the
-    // text is too long is said only where it is.
+    // What a refusal says is so at its place: a byte above 127, or that begins no token, a number
+    // above the least limit, an opening brace, some token or the end; or the text is too long.
     ensures place { IfErr result (RefusalIn start text.now) }
     // A text that is too long is refused as such, at its first byte.
     ensures long { TEXT_BYTES < length text.now → result ≡ Err (TooLong start) }

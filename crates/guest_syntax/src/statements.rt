@@ -14,7 +14,7 @@ use crate::tokens::{name, symbol};
 use crate::tree::{Name, Statement};
 use std::alloc::Global;
 
-/// A name, and the mark that ends what it is in.
+/// A name, and the `;` that ends its statement or declaration.
 #[tactic(auto, unfolding(crate::specs::reader::Statements::one_name_from))]
 pub fn one_name<'a>(alloc: Global, text: Cursor<'a>) -> Result<(Name, Cursor<'a>), SyntaxError>
     ensures { Parses name_view result one_name_from text.entry }
@@ -24,7 +24,7 @@ pub fn one_name<'a>(alloc: Global, text: Cursor<'a>) -> Result<(Name, Cursor<'a>
     Ok((name, text))
 }
 
-/// Two names, and the mark that ends their statement.
+// Two names, and the `;` that ends their statement.
 #[tactic(auto, unfolding(crate::specs::reader::Statements::two_names_from))]
 fn two_names<'a>(alloc: Global, text: Cursor<'a>) -> Result<((Name, Name), Cursor<'a>), SyntaxError>
     ensures { Parses (λ x. (name_view x.0, name_view x.1)) result two_names_from text.entry }
@@ -35,6 +35,7 @@ fn two_names<'a>(alloc: Global, text: Cursor<'a>) -> Result<((Name, Name), Curso
     Ok(((first, second), text))
 }
 
+// The rest of a `store`, after its keyword: a variable and a value.
 #[tactic(auto, unfolding(crate::specs::reader::Statements::store_from))]
 fn store<'a>(alloc: Global, text: Cursor<'a>) -> Result<(Statement, Cursor<'a>), SyntaxError>
     ensures { Parses stmt_view result store_from text.entry }
@@ -45,6 +46,7 @@ fn store<'a>(alloc: Global, text: Cursor<'a>) -> Result<(Statement, Cursor<'a>),
     Ok((Statement::Store { variable, value }, text))
 }
 
+// The rest of an `add`, after its keyword: a local, a variable and a value.
 #[tactic(auto, unfolding(crate::specs::reader::Statements::add_from))]
 fn add<'a>(alloc: Global, text: Cursor<'a>) -> Result<(Statement, Cursor<'a>), SyntaxError>
     ensures { Parses stmt_view result add_from text.entry }
@@ -61,6 +63,7 @@ fn add<'a>(alloc: Global, text: Cursor<'a>) -> Result<(Statement, Cursor<'a>), S
     Ok((statement, text))
 }
 
+// The rest of a `cas`, after its keyword: a local, a variable, the expected value and the new one.
 #[tactic(auto, unfolding(crate::specs::reader::Statements::cas_from))]
 fn cas<'a>(alloc: Global, text: Cursor<'a>) -> Result<(Statement, Cursor<'a>), SyntaxError>
     ensures { Parses stmt_view result cas_from text.entry }
@@ -79,6 +82,7 @@ fn cas<'a>(alloc: Global, text: Cursor<'a>) -> Result<(Statement, Cursor<'a>), S
     Ok((statement, text))
 }
 
+// The rest of a `set`, after its keyword: a local and an expression.
 #[tactic(auto, unfolding(crate::specs::reader::Statements::set_from))]
 fn set<'a>(alloc: Global, text: Cursor<'a>) -> Result<(Statement, Cursor<'a>), SyntaxError>
     ensures { Parses stmt_view result set_from text.entry }
@@ -89,6 +93,7 @@ fn set<'a>(alloc: Global, text: Cursor<'a>) -> Result<(Statement, Cursor<'a>), S
     Ok((Statement::Set { local, value }, text))
 }
 
+// The rest of an `assert`, after its keyword: an expression.
 #[tactic(auto, unfolding(crate::specs::reader::Statements::assert_from))]
 fn assertion<'a>(alloc: Global, text: Cursor<'a>) -> Result<(Statement, Cursor<'a>), SyntaxError>
     ensures { Parses stmt_view result assert_from text.entry }
@@ -98,8 +103,8 @@ fn assertion<'a>(alloc: Global, text: Cursor<'a>) -> Result<(Statement, Cursor<'
     Ok((Statement::Assert(test), text))
 }
 
-/// A statement of one name, after its keyword, which is at this place.
-fn named<'a>(
+// The rest of a statement of one name, after `keyword` at `at`; other keywords are refused.
+fn one_name_statement<'a>(
     alloc: Global,
     keyword: Keyword,
     at: Pos,
@@ -137,8 +142,8 @@ fn named<'a>(
     }
 }
 
-/// A statement without a block, after its keyword, which is at this place.
-pub fn simple<'a>(
+/// The rest of a statement without a block, after `keyword` at `at`; other keywords are refused.
+pub fn simple_statement<'a>(
     alloc: Global,
     keyword: Keyword,
     at: Pos,
@@ -165,6 +170,6 @@ pub fn simple<'a>(
             let (_, text) = symbol(text, Symbol::End)?;
             Ok((Statement::Leave, text))
         }
-        _ => named(alloc, keyword, at, text),
+        _ => one_name_statement(alloc, keyword, at, text),
     }
 }

@@ -32,7 +32,7 @@ pub enum Keyword {
     Assert,
 }
 
-/// An operator or a mark.
+/// An operator or a mark, which is the `=` before an opening value, a brace or `;`.
 #[derive(Clone, Copy, Debug, PartialEq, Eq)]
 pub enum Symbol {
     Equal,
@@ -50,12 +50,12 @@ pub enum Symbol {
     End,
 }
 
-/// What a token is.
+/// What a token is, with the bytes of a name and the value of a number.
 #[derive(Clone, Copy, Debug)]
 pub enum TokenKind<'a> {
     Name(&'a [u8]),
     Keyword(Keyword),
-    /// The value of a number. Those above 2^64 - 1 all count as that.
+    /// The value of a number; 2^64 - 1 for every number above that.
     Number(u64),
     Symbol(Symbol),
 }
@@ -93,7 +93,7 @@ pub const KEYWORDS: [Keyword; 22] = [
     Keyword::Assert,
 ];
 
-/// All operators and marks, the longer ones first.
+/// All operators and marks, longer ones first: the first that a text begins with is the longest.
 pub const SYMBOLS: [Symbol; 13] = [
     Symbol::Equal,
     Symbol::NotEqual,

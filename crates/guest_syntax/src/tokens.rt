@@ -12,14 +12,14 @@ ghost use Rattle.guest_syntax.specs.reader.SingleTokens.{next_at, token_at, symb
 
 use crate::cursor::Cursor;
 use crate::error::SyntaxError;
-use crate::lexer::first;
+use crate::lexer::first_token;
 use crate::limits::REPEATS;
 use crate::place::Pos;
 use crate::token::{Symbol, Token, TokenKind};
 use crate::tree::Name;
 use std::alloc::Global;
 
-/// The next token and what comes after it, or nothing and the end of the text.
+/// The next token and the cursor after it, or none and the text's end.
 pub fn next_token<'a>(text: Cursor<'a>) -> Result<(Option<Token<'a>>, Cursor<'a>), SyntaxError>
     ensures gives { Reads (option_map token_view) result next_at text.entry }
     ensures spelt { IfOk result (λ x. IfSome x.0 (λ t. IsTokenOf text.entry (token_view t))) }
@@ -28,10 +28,10 @@ pub fn next_token<'a>(text: Cursor<'a>) -> Result<(Option<Token<'a>>, Cursor<'a>
     ensures within { StaysIn result text.entry }
     ensures shorter { ItemTakesToken result text.entry }
 {
-    first(text)
+    first_token(text)
 }
 
-/// A token, which the grammar wants here.
+/// The next token and the cursor after it; the end of the text is refused.
 #[tactic(auto, unfolding(crate::specs::reader::SingleTokens::next_at, crate::specs::reader::SingleTokens::token_at))]
 pub fn token<'a>(text: Cursor<'a>) -> Result<(Token<'a>, Cursor<'a>), SyntaxError>
     ensures gives { Reads token_view result token_at text.entry }
@@ -46,7 +46,7 @@ pub fn token<'a>(text: Cursor<'a>) -> Result<(Token<'a>, Cursor<'a>), SyntaxErro
     }
 }
 
-/// This operator or mark. Answers its place.
+/// The place of the next token, which must be the symbol `wanted`, and the cursor after it.
 #[tactic(auto, unfolding(crate::specs::reader::SingleTokens::symbol_from))]
 pub fn symbol<'a>(text: Cursor<'a>, wanted: Symbol) -> Result<(Pos, Cursor<'a>), SyntaxError>
     ensures gives { Gives (λ x. rest_of x.1) result (symbol_from wanted (rest_of text.entry)) }
@@ -62,7 +62,7 @@ pub fn symbol<'a>(text: Cursor<'a>, wanted: Symbol) -> Result<(Pos, Cursor<'a>),
     }
 }
 
-/// A name.
+/// The next token, which must be a name, and the cursor after it.
 #[tactic(auto, unfolding(crate::specs::reader::SingleTokens::name_from))]
 pub fn name<'a>(alloc: Global, text: Cursor<'a>) -> Result<(Name, Cursor<'a>), SyntaxError>
     ensures { Parses name_view result name_from text.entry }
@@ -77,7 +77,7 @@ pub fn name<'a>(alloc: Global, text: Cursor<'a>) -> Result<(Name, Cursor<'a>), S
     }
 }
 
-/// The value of a token, which is to be a number up to a limit.
+/// The value of a token, which must be a number up to `limit`.
 pub fn number_in(token: Token, limit: u64) -> Result<u64, SyntaxError>
     requires least { REPEATS ≤ limit }
     ensures gives { Gives (λ n. n) result (number_in limit (kind_view token.entry.kind)) }
@@ -92,7 +92,7 @@ pub fn number_in(token: Token, limit: u64) -> Result<u64, SyntaxError>
     }
 }
 
-/// A number up to a limit.
+/// The value of the next token, which must be a number up to `limit`, and the cursor after it.
 #[tactic(auto, unfolding(crate::specs::reader::SingleTokens::number_from))]
 pub fn number<'a>(text: Cursor<'a>, limit: u64) -> Result<(u64, Cursor<'a>), SyntaxError>
     requires least { REPEATS ≤ limit }
@@ -104,7 +104,7 @@ pub fn number<'a>(text: Cursor<'a>, limit: u64) -> Result<(u64, Cursor<'a>), Syn
     Ok((number, after))
 }
 
-/// How often a block is repeated.
+/// The number after `repeat`, how often its block runs, 1 to `REPEATS`; and the cursor after it.
 #[tactic(auto, unfolding(crate::specs::reader::SingleTokens::times_from))]
 pub fn times<'a>(text: Cursor<'a>) -> Result<(u8, Cursor<'a>), SyntaxError>
     ensures { Parses (λ x. x) result times_from text.entry }

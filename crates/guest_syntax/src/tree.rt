@@ -10,7 +10,7 @@ use crate::place::Pos;
 pub struct Name {
     /// The bytes of the name: ASCII letters, digits and `_`.
     pub text: Vec<u8>,
-    /// The place of its first byte.
+    /// The place of the name's first byte.
     pub at: Pos,
 }
 
@@ -23,8 +23,7 @@ pub enum Operand {
     Literal(i64),
 }
 
-/// What an expression makes of two values. Sums, differences and products wrap; comparisons are
-/// signed and give 1 or 0.
+/// What an expression makes of two values; `+`, `-`, `*` wrap, signed comparisons give 1 or 0.
 #[derive(Clone, Copy, Debug, PartialEq, Eq)]
 pub enum Op {
     /// `+`
@@ -50,9 +49,9 @@ pub enum Op {
 /// An operand alone, or two with an operator between them.
 #[derive(Debug, Drop)]
 pub enum Expr {
-    /// The operand itself.
+    /// An operand alone.
     Single(Operand),
-    /// What the operator makes of the two.
+    /// What the operator makes of the two operands.
     Both(Operand, Op, Operand),
 }
 
@@ -60,7 +59,7 @@ pub enum Expr {
 #[derive(Debug, Drop)]
 #[cycle(statements)]
 pub struct Placed {
-    /// The place of its first byte, which is that of its keyword.
+    /// The place of the statement's first byte, with which its keyword begins.
     pub at: Pos,
     /// The statement.
     pub statement: Statement,
@@ -81,7 +80,7 @@ pub enum Statement {
     Store {
         /// What is written.
         variable: Name,
-        /// What is written to it.
+        /// What is written to the variable.
         value: Operand,
     },
     /// Adds the value to the variable in one step; the local gets the variable's old value.
@@ -93,16 +92,15 @@ pub enum Statement {
         /// What is added.
         value: Operand,
     },
-    /// Compares the variable with the expected value and, where they are equal, sets the new one,
-    /// in one step; the local gets 1 where they were, else 0.
+    /// Sets the variable to `new` where it is `expected`, in one step; the local gets 1 or 0.
     Cas {
-        /// What gets 1 or 0.
+        /// What gets 1 where the variable is set, else 0.
         local: Name,
         /// What is compared and set.
         variable: Name,
-        /// What the variable is to have.
+        /// What the variable must have to be set.
         expected: Operand,
-        /// What it is set to.
+        /// What the variable is set to.
         new: Operand,
     },
     /// Locks the mutex of this name.
@@ -113,7 +111,7 @@ pub enum Statement {
     Wait {
         /// What is waited for.
         condition: Name,
-        /// What is given up until then.
+        /// What is given up while the thread waits.
         mutex: Name,
     },
     /// Wakes the thread that has waited longest for the condition of this name.
@@ -128,12 +126,12 @@ pub enum Statement {
     Set {
         /// What is set.
         local: Name,
-        /// What it is set to.
+        /// What the local is set to.
         value: Expr,
     },
     /// Stops the thread where the value is 0.
     Assert(Expr),
-    /// Runs a block where the value is not 0, else the other one.
+    /// Runs the block `then` where the test's value is not 0, else the block `otherwise`, if any.
     If {
         /// What is tested.
         test: Expr,
@@ -146,7 +144,7 @@ pub enum Statement {
     Repeat {
         /// How often: at least once, and at most the limit of `docs/LANGUAGE.md`.
         times: u8,
-        /// The block.
+        /// The block that is repeated.
         body: Vec<Placed>,
     },
     /// Leaves the nearest `repeat`.
@@ -169,18 +167,18 @@ pub enum Object {
 /// A declared object.
 #[derive(Debug, Drop)]
 pub struct Declaration {
-    /// Its name.
+    /// The object's name.
     pub name: Name,
-    /// What it is.
+    /// What kind of object is declared, with its opening value.
     pub object: Object,
 }
 
 /// A thread and its statements.
 #[derive(Debug, Drop)]
 pub struct Thread {
-    /// Its name.
+    /// The thread's name.
     pub name: Name,
-    /// Its statements, in text order.
+    /// The thread's statements, in text order.
     pub body: Vec<Placed>,
 }
 
@@ -204,14 +202,14 @@ impl Tree {
         }
     }
 
-    /// The declarations, in text order.
+    /// The declarations of the text, in text order.
     pub fn declarations(&self) -> &[Declaration]
         ensures { map declaration_view result.now ≡ (tree_view self.now).declarations }
     {
         self.declarations.as_slice()
     }
 
-    /// The threads, in text order.
+    /// The threads of the text, in text order.
     pub fn threads(&self) -> &[Thread]
         ensures { map thread_view result.now ≡ (tree_view self.now).threads }
     {

@@ -1,4 +1,4 @@
-//! Which brace seems to be missing.
+//! Which closing brace seems to be missing.
 
 use crate::pieces::{closing_piece, is_first_in_line};
 use guest_syntax::pieces::Piece;
@@ -10,10 +10,11 @@ use std::fmt;
 pub struct OpenBlock {
     /// Where the `{` of the block is.
     pub at: Pos,
-    /// Where the `}` of the block is, if anywhere, and the line after which one seems to be missing.
+    /// Where the `}` of the block is, if anywhere, and the line after which one seems missing.
     closed: Option<(Pos, u32)>,
 }
 
+/// What is said of the block's `{`: where it is closed, if anywhere, and where a `}` seems missing.
 impl fmt::Display for OpenBlock {
     fn fmt<W: fmt::Write>(&self, f: &mut fmt::Formatter<W>) -> fmt::Result {
         match self.closed {
@@ -26,13 +27,14 @@ impl fmt::Display for OpenBlock {
     }
 }
 
-// The column of the first piece of a line; 0 where the line has none.
+// The indent of a line: the column of its first piece; 0 where it has no piece.
 fn indent(pieces: &[Piece<'_>], line: u32) -> u32 {
     let first = pieces.iter().find(|piece| piece.at.line == line);
     first.map_or(0, |piece| piece.at.col)
 }
 
-// Of the lines right after a line that are indented deeper, the last one; the line itself if none is.
+// The last of the lines that follow a line and are indented deeper, up to the first that isn't; the
+// line itself where the next one isn't. Lines without a piece don't count.
 fn last_deeper_line(pieces: &[Piece<'_>], line: u32) -> u32 {
     let depth = indent(pieces, line);
     let mut last = line;
@@ -47,14 +49,15 @@ fn last_deeper_line(pieces: &[Piece<'_>], line: u32) -> u32 {
     last
 }
 
-// The block that the piece of a number opens, where a `}` at the start of a line that is indented less
-// than the line of the `{` closes the block, or where none does.
-fn open_block_at(pieces: &[Piece<'_>], number: usize) -> Option<OpenBlock> {
-    let at = pieces.get(number)?.at;
-    if !matches!(pieces.get(number)?.text, b"{") {
+// The block whose `{` is at an index, if its `}` seems to be missing: it is never closed, or only
+// by a `}` that begins a line and is indented less than the line of the `{`. `None` where the block
+// is closed as it should be, or no `{` is at the index.
+fn open_block_at(pieces: &[Piece<'_>], index: usize) -> Option<OpenBlock> {
+    let at = pieces.get(index)?.at;
+    if !matches!(pieces.get(index)?.text, b"{") {
         return None;
     }
-    let Some(close) = closing_piece(pieces, number) else {
+    let Some(close) = closing_piece(pieces, index) else {
         return Some(OpenBlock { at, closed: None });
     };
     let end = pieces.get(close)?.at;
@@ -65,11 +68,13 @@ fn open_block_at(pieces: &[Piece<'_>], number: usize) -> Option<OpenBlock> {
     Some(OpenBlock { at, closed })
 }
 
-/// Of the blocks opened before piece `end`, the first that is closed too late, else the last unclosed.
+/// The block whose `}` seems to be missing, among those with a `{` before the index `end`: the
+/// first that is closed too late, by the indents of lines, or else the last that is never closed.
+/// `None` where all are closed as they should be.
 pub fn missing_brace(pieces: &[Piece<'_>], end: usize) -> Option<OpenBlock> {
     let mut unclosed = None;
-    for number in 0..end {
-        match open_block_at(pieces, number) {
+    for index in 0..end {
+        match open_block_at(pieces, index) {
             Some(open) if open.closed.is_some() => return Some(open),
             Some(open) => unclosed = Some(open),
             None => {}

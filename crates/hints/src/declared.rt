@@ -4,50 +4,31 @@ ghost use Rattle.std.specs.Prelude.{◌≡◌, IfOk};
 ghost use Rattle.hints.specs.Near.{near};
 
 use crate::pieces::text_of;
-use guest_syntax::tree::{Name, Object, Tree};
+use guest_code::kinds::{NameKind, kind_of};
+use guest_syntax::tree::{Name, Tree};
 use std::alloc::{AllocError, Global};
 use std::fmt;
 use strsim::generic_levenshtein;
 
-/// What a declared name is of.
-#[derive(Clone, Copy, Debug, PartialEq, Eq)]
-pub enum DeclaredKind {
-    Variable,
-    Mutex,
-    Condition,
-    Semaphore,
-    Thread,
-}
-
-impl From<Object> for DeclaredKind {
-    fn from(object: Object) -> DeclaredKind {
-        match object {
-            Object::Variable(_) => DeclaredKind::Variable,
-            Object::Mutex => DeclaredKind::Mutex,
-            Object::Condition => DeclaredKind::Condition,
-            Object::Semaphore(_) => DeclaredKind::Semaphore,
-        }
-    }
-}
-
-/// The word for what a declared name is of.
-pub fn kind_word(kind: DeclaredKind) -> &'static str {
+/// The word for what a name is declared as: `variable`, `mutex` and so on.
+pub fn kind_word(kind: NameKind) -> &'static str {
     match kind {
-        DeclaredKind::Variable => "variable",
-        DeclaredKind::Mutex => "mutex",
-        DeclaredKind::Condition => "condition",
-        DeclaredKind::Semaphore => "semaphore",
-        DeclaredKind::Thread => "thread",
+        NameKind::Variable => "variable",
+        NameKind::Mutex => "mutex",
+        NameKind::Condition => "condition",
+        NameKind::Semaphore => "semaphore",
+        NameKind::Thread => "thread",
     }
 }
 
-/// A declared name, and whether a variable, another object or a thread has it.
+/// A declared name, and what it is declared as.
 #[derive(Clone, Copy)]
 pub struct DeclaredName<'a> {
     pub name: &'a Name,
-    pub kind: DeclaredKind,
+    pub kind: NameKind,
 }
 
+/// What is said of the name: what it is declared as, and where.
 impl fmt::Display for DeclaredName<'_> {
     fn fmt<W: fmt::Write>(&self, f: &mut fmt::Formatter<W>) -> fmt::Result {
         let (name, kind) = (text_of(&self.name.text), kind_word(self.kind));
@@ -55,23 +36,29 @@ impl fmt::Display for DeclaredName<'_> {
     }
 }
 
-/// The first declaration of a name, of an object or else of a thread; none where there is none.
+/// The first declaration of a name in a tree: of an object, or else of a thread. `None` where the
+/// name isn't declared.
 pub fn first_declaration<'a>(tree: &'a Tree, name: &[u8]) -> Option<DeclaredName<'a>> {
     let objects = tree.declarations().iter().map(|object| DeclaredName {
         name: &object.name,
-        kind: DeclaredKind::from(object.object),
+        kind: kind_of(object.object),
     });
     let threads = tree.threads().iter().map(|thread| DeclaredName {
         name: &thread.name,
-        kind: DeclaredKind::Thread,
+        kind: NameKind::Thread,
     });
     objects
         .chain(threads)
         .find(|declared| declared.name.text.as_slice() == name)
 }
 
-/// How many edits of single bytes lead from a name to the other one, where they are near: at most a
-/// third as many edits as the name has bytes, rounded up, and fewer than the other one has.
+/// The Levenshtein distance of two names, how many edits of single bytes lead from one to the
+/// other, where they are near: at most a third of the length of `name`, rounded up, and less than
+/// the length of `other`. `None` where they aren't near.
+///
+/// # Errors
+///
+/// `AllocError` where memory runs out.
 pub fn near_distance(alloc: Global, name: &[u8], other: &[u8]) -> Result<Option<usize>, AllocError>
     ensures { IfOk result (λ n. n ≡ near name.now other.now) }
 {
@@ -83,20 +70,26 @@ pub fn near_distance(alloc: Global, name: &[u8], other: &[u8]) -> Result<Option<
     }
 }
 
-/// A search for what has the name nearest to a word: of what was added, the first with the fewest edits.
+/// A search for the thing whose name is nearest to a word: of those added whose names are near the
+/// word, as [`near_distance`] says, the first with the least distance.
 #[derive(Clone, Copy)]
 pub struct Nearest<'a, T> {
     word: &'a [u8],
+    // The thing of the nearest name so far, with the distance of the name.
     best: Option<(usize, T)>,
 }
 
 impl<'a, T: Copy> Nearest<'a, T> {
-    /// A search for a word to which nothing was added yet.
+    /// A search for the thing whose name is nearest to this word, with nothing added yet.
     pub fn new(word: &'a [u8]) -> Nearest<'a, T> {
         Nearest { word, best: None }
     }
 
-    /// Adds a thing with its name, which may be the nearest so far.
+    /// Adds a thing with its name to those among which the search is.
+    ///
+    /// # Errors
+    ///
+    /// `AllocError` where memory runs out.
     pub fn add(&mut self, alloc: Global, name: &[u8], thing: T) -> Result<(), AllocError> {
         if let Some(distance) = near_distance(alloc, self.word, name)? {
             if self.best.is_none_or(|(least, _)| distance < least) {
@@ -106,22 +99,28 @@ impl<'a, T: Copy> Nearest<'a, T> {
         Ok(())
     }
 
-    /// Of what was added, the thing whose name is nearest to the word, if one is near.
+    /// The thing found: of those added, the first whose name is nearest; `None` where no name is
+    /// near.
     pub fn found(self) -> Option<T> {
         self.best.map(|(_, thing)| thing)
     }
 }
 
-/// The declared name of an object of a kind that is nearest to a word, the first such, if one is near.
+/// The name nearest to a word among those of the declared objects of a kind, the first of equally
+/// near ones; `None` where none is near, as [`near_distance`] says.
+///
+/// # Errors
+///
+/// `AllocError` where memory runs out.
 pub fn nearest_object<'a>(
     alloc: Global,
     tree: &'a Tree,
-    kind: DeclaredKind,
+    kind: NameKind,
     word: &[u8],
 ) -> Result<Option<&'a Name>, AllocError> {
     let mut nearest = Nearest::new(word);
     for object in tree.declarations() {
-        if DeclaredKind::from(object.object) == kind {
+        if kind_of(object.object) == kind {
             nearest.add(alloc, &object.name.text, &object.name)?;
         }
     }

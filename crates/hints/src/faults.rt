@@ -1,16 +1,22 @@
-//! The words of refusals of a tree that is no program.
+//! What is said of a tree that is no program, beside the short form of its refusal.
 
-use crate::declared::{DeclaredKind, DeclaredName, first_declaration, kind_word, nearest_object};
+use crate::declared::{DeclaredName, first_declaration, kind_word, nearest_object};
 use crate::forms::Slot;
 use crate::message::Message;
 use crate::pieces::{span_at, text_of};
 use crate::site::FaultSite;
 use guest_code::error::CheckError;
+use guest_code::kinds::NameKind;
 use guest_code::limits::{LOCALS, OBJECTS, THREADS, VARIABLES};
 use guest_syntax::tree::Tree;
 use std::alloc::{AllocError, Global};
 
-/// The message of a tree that is refused with this error at a place.
+/// What is wrong with a tree that is no program, by its error and the error's site, and what to
+/// write instead. The message is empty where memory ran out, which is no fault of the tree.
+///
+/// # Errors
+///
+/// `AllocError` where memory runs out.
 pub fn fault_message(
     alloc: Global,
     site: FaultSite<'_>,
@@ -37,7 +43,7 @@ pub fn fault_message(
     }
 }
 
-// The message of a name that is declared twice.
+// The message on the name at the site, which is declared before, with a note on where.
 fn duplicate_message(
     alloc: Global,
     site: FaultSite<'_>,
@@ -54,14 +60,15 @@ fn duplicate_message(
     }
 }
 
-// The message of a name that isn't declared.
+// The message on the name at the site, which has to be an object's and isn't declared, with a note:
+// the declared name nearest to it, or what to write instead, or how to declare it.
 fn unknown_message(alloc: Global, site: FaultSite<'_>, tree: &Tree) -> Result<Message, AllocError> {
     let found = site.found();
     let (kind, keyword, opening) = match site.slot() {
-        Some(Slot("MUTEX")) => (DeclaredKind::Mutex, "mutex", ""),
-        Some(Slot("COND")) => (DeclaredKind::Condition, "cond", ""),
-        Some(Slot("SEM")) => (DeclaredKind::Semaphore, "sem", " = 0"),
-        _ => (DeclaredKind::Variable, "var", ""),
+        Some(Slot("MUTEX")) => (NameKind::Mutex, "mutex", ""),
+        Some(Slot("COND")) => (NameKind::Condition, "cond", ""),
+        Some(Slot("SEM")) => (NameKind::Semaphore, "sem", " = 0"),
+        _ => (NameKind::Variable, "var", ""),
     };
     let message = Message::new(alloc, format_args!("no {} has this name", kind_word(kind)))?;
     if let Some(near) = nearest_object(alloc, tree, kind, found.as_bytes())? {
@@ -74,7 +81,8 @@ fn unknown_message(alloc: Global, site: FaultSite<'_>, tree: &Tree) -> Result<Me
     }
 }
 
-// The message of the name of an object where another object, a local or a number must be.
+// The message on the name at the site, which is declared, but not as what has to be named there:
+// what it is declared as, what has to be there, and notes on what to write instead.
 fn wrong_kind_message(
     alloc: Global,
     site: FaultSite<'_>,
@@ -91,7 +99,8 @@ fn wrong_kind_message(
     }
 }
 
-// The message of one object, thread or local more than there may be, declared with this keyword.
+// The message on one object, thread or local more than there may be. The keyword is that of the
+// object's or thread's declaration, or of the statement that is the first to use the local.
 fn too_many_message(alloc: Global, keyword: &str) -> Result<Message, AllocError> {
     let (what, most) = match keyword {
         "var" => ("variable", VARIABLES),

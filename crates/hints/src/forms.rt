@@ -5,10 +5,12 @@ use guest_syntax::pieces::Pieces;
 use std::fmt;
 use std::str::from_utf8;
 
-/// A word of a form: what the place is for.
+/// What a [`Form`] has at some place after its keyword: a word in capitals, as `LOCAL`, for what is
+/// to be filled in there, or one of `=`, `;` and `{`.
 #[derive(Clone, Copy, Debug, PartialEq, Eq)]
 pub struct Slot(pub &'static str);
 
+/// What has to be at the place, as messages say it.
 impl fmt::Display for Slot {
     fn fmt<W: fmt::Write>(&self, f: &mut fmt::Formatter<W>) -> fmt::Result {
         match self.0 {
@@ -28,8 +30,9 @@ impl fmt::Display for Slot {
     }
 }
 
-/// The keyword of a statement or a declaration, and how that is written. Where it has two ways, the
-/// second has all places of the first.
+/// How a statement, a declaration or a thread is written: its keyword, and then all of it, with
+/// words in capitals for what is to be filled in, as `lock MUTEX;`. Where there are two ways,
+/// joined by `or`, the second has all such words of the first.
 #[derive(Clone, Copy)]
 pub struct Form(pub &'static str, pub &'static str);
 
@@ -62,26 +65,27 @@ pub static STATEMENTS: [Form; 16] = [
     Form("leave", "leave;"),
 ];
 
-// The form of `else`, which begins no statement, but goes on with an `if`.
+// The form of `else`, which begins no statement, but continues an `if`.
 static ELSE: Form = Form("else", "if VALUE { .. } else { .. }");
 
 impl Form {
-    /// The form with this keyword, in upper or lower case, if there is one.
+    /// The form with this keyword, in upper or lower case; `None` where no form has it.
     pub fn with_keyword(keyword: &str) -> Option<Form> {
         let mut all = DECLARATIONS.iter().chain(&STATEMENTS).chain([&ELSE]);
         all.find(|form| form.0.eq_ignore_ascii_case(keyword))
             .copied()
     }
 
-    /// Whether a block ends the form.
+    /// Whether the form ends with a block, as that of `if` does.
     pub fn has_block(self) -> bool {
         self.1.ends_with('}')
     }
 
-    /// What the place of a number after the keyword is for, from 0 on; none where the form has no more.
-    pub fn slot(self, number: usize) -> Option<Slot> {
+    /// What the form has at an index after its keyword, from 0 on; `None` past the form's end. Of
+    /// two ways to write it, the second counts.
+    pub fn slot(self, index: usize) -> Option<Slot> {
         let (_, places) = self.1.rsplit_once(self.0)?;
-        let word = Pieces::new(places.as_bytes()).nth(number)?;
+        let word = Pieces::new(places.as_bytes()).nth(index)?;
         Some(Slot(from_utf8(word.text).ok()?))
     }
 }

@@ -6,7 +6,7 @@ use messages::message::{Diagnostic, Note, Severity, Span};
 use std::alloc::{AllocError, Global};
 use std::fmt::Display;
 
-/// A message, and notes on it.
+/// What a diagnostic says after its short form: a message, and notes on it.
 #[derive(Debug, Drop)]
 pub struct Message {
     text: String,
@@ -15,6 +15,10 @@ pub struct Message {
 
 impl Message {
     /// A message with no note.
+    ///
+    /// # Errors
+    ///
+    /// `AllocError` where memory runs out.
     pub fn new(alloc: Global, text: impl Display + Drop) -> Result<Message, AllocError> {
         Ok(Message {
             text: text.to_string(alloc)?,
@@ -23,27 +27,36 @@ impl Message {
     }
 
     /// The allocator that the memory of the message comes from.
-    pub fn alloc(&self) -> Global {
+    pub fn allocator(&self) -> Global {
         *self.notes.allocator()
     }
 
-    /// Adds a note that is of no place.
+    /// Adds a note on no place of the text.
+    ///
+    /// # Errors
+    ///
+    /// `AllocError` where memory runs out.
     pub fn with_note(self, note: impl Display + Drop) -> Result<Message, AllocError> {
         self.with_note_at(None, note)
     }
 
-    /// Adds a note that is of a place, or of none.
+    /// Adds a note on the bytes of a span, or, where that is `None`, on no place of the text.
+    ///
+    /// # Errors
+    ///
+    /// `AllocError` where memory runs out.
     pub fn with_note_at(
         mut self,
         span: Option<Span>,
         note: impl Display + Drop,
     ) -> Result<Message, AllocError> {
-        let text = note.to_string(self.alloc())?.into_bytes();
+        let text = note.to_string(self.allocator())?.into_bytes();
         self.notes.push(Note { span, text })?;
         Ok(self)
     }
 
-    /// A diagnostic with the message, this short form (`headline`), and this place if there is one.
+    /// Turns the message and its notes into a diagnostic of this severity, with the short form
+    /// `headline`, on the bytes of the span, if there is one.
     pub fn into_diagnostic(
         self,
         severity: Severity,

@@ -1,25 +1,26 @@
-//! What is proposed in place of a wrong statement or declaration: what a rule writes, where the language
-//! takes it after the declarations of the text.
+//! What is proposed in place of a wrong statement or declaration: what a rule writes, where that
+//! makes a guest program with the rest of the text.
 
 use crate::forms::Form;
+use crate::keywords::{declaration_keyword, statement_keyword};
 use crate::message::Message;
 use crate::pieces::{is_name, is_number, text_of};
 use crate::rules::RULES;
 use crate::site::FaultSite;
-use crate::slips::{declaration_keyword, statement_keyword};
 use crate::words::assignment_words;
 use guest_code::error::CheckError;
 use guest_code::lowering::lower;
 use guest_syntax::{SyntaxError, parse};
 use std::alloc::{AllocError, Global};
 
-// Names for the new locals of a draft; a name that the text has is passed over.
+// Names for the new locals of a draft. A name that is in the text already isn't used.
 const LOCAL_NAMES: [&str; 8] = ["r", "s", "t", "u", "v", "w", "y", "z"];
 
-// Whether a mark of a rule, as `A` or `=`, may stand for a word of the text.
-fn may_stand_for(site: FaultSite<'_>, mark: &str, word: &str) -> bool {
+// Whether a word of a rule's pattern matches a word of the text: a placeholder, as `A`, each word
+// of its kind, as [`RULES`] says, and any other, as `=`, itself alone.
+fn is_match(site: FaultSite<'_>, placeholder: &str, word: &str) -> bool {
     let is_comparison = matches!(word, "==" | "!=" | "<" | "<=" | ">" | ">=");
-    match mark {
+    match placeholder {
         "X" => site.is_variable(word),
         "L" => is_name(word) && !site.is_variable(word),
         "H" | "N" | "M" | "K" => is_name(word),
@@ -30,23 +31,25 @@ fn may_stand_for(site: FaultSite<'_>, mark: &str, word: &str) -> bool {
         "G" => is_comparison || matches!(word, "+" | "-"),
         "T" | "U" => is_comparison,
         "W" => matches!(word, "&&" | "||"),
-        _ => mark == word,
+        _ => placeholder == word,
     }
 }
 
-// What a rule proposes in place of words that are like the pattern of the rule.
+// What a rule proposes to write in place of a statement or declaration that matches its pattern.
 #[derive(Drop)]
 struct Draft<'a> {
     site: FaultSite<'a>,
-    /// What each mark of the pattern stands for.
+    /// What each word of the pattern matched, and the names given to placeholders for new locals.
     meanings: Vec<(&'static str, &'a str)>,
     /// How many names of new locals were given so far.
     locals: usize,
+    /// What is to be written.
     text: String,
 }
 
 impl<'a> Draft<'a> {
-    // What a rule writes for words; none where the words aren't like the pattern of the rule.
+    // The draft of a rule for a statement or declaration of these words; `None` where they don't
+    // match the rule's pattern.
     fn new(
         alloc: Global,
         site: FaultSite<'a>,
@@ -55,15 +58,16 @@ impl<'a> Draft<'a> {
     ) -> Result<Option<Draft<'a>>, AllocError> {
         let (pattern, template) = rule.split_once(" -> ").unwrap_or((rule, ""));
         let (mut meanings, mut left) = (Vec::new(alloc), words);
-        for mark in pattern.split(' ') {
+        for placeholder in pattern.split(' ') {
             let [word, rest @ ..] = left else {
                 return Ok(None);
             };
-            let is_other = |(other, meaning): &(&str, &str)| *other == mark && meaning != word;
-            if !may_stand_for(site, mark, word) || meanings.iter().any(is_other) {
+            let is_other = |(other, meaning): &(&str, &str)| *other == placeholder
+                && meaning != word;
+            if !is_match(site, placeholder, word) || meanings.iter().any(is_other) {
                 return Ok(None);
             }
-            meanings.push((mark, *word))?;
+            meanings.push((placeholder, *word))?;
             left = rest;
         }
         if !left.is_empty() {
@@ -80,7 +84,8 @@ impl<'a> Draft<'a> {
         Ok(Some(draft))
     }
 
-    // A name for one more local; the word `LOCAL` where all names are in the text.
+    // A name for one more new local of the draft, one that isn't in the text; the word `LOCAL`
+    // where there is no such name left.
     fn new_local(&mut self) -> &'static str {
         let pieces = self.site.pieces;
         let is_new = |name: &&str| !pieces.iter().any(|piece| piece.text == name.as_bytes());
@@ -89,58 +94,64 @@ impl<'a> Draft<'a> {
         local.unwrap_or("LOCAL")
     }
 
-    // The word of the text that a mark of the pattern stands for; none where the pattern lacks the mark.
-    fn word_of(&self, mark: &str) -> Option<&'a str> {
+    // The word of the text that a placeholder of the pattern, as `A`, was matched with, or the name
+    // given to a placeholder for a new local. `None` where there is neither.
+    fn word_for(&self, placeholder: &str) -> Option<&'a str> {
         let mut all = self.meanings.iter();
-        all.find(|(other, _)| *other == mark).map(|(_, word)| *word)
+        all.find(|(other, _)| *other == placeholder)
+            .map(|(_, word)| *word)
     }
 
-    // What is written for a mark of the template; for a variable where a value must be, also a load.
-    fn expand_mark(&mut self, mark: &'static str) -> Result<&'a str, AllocError> {
-        let word = self.word_of(mark).unwrap_or("");
-        if matches!(mark, "A" | "B" | "C" | "E") && self.site.is_variable(word) {
+    // The word to write for a placeholder of the template; any other word of it stands for itself.
+    // For a variable where a value has to be written, it is a new local, and a `load` of the
+    // variable into that local is added to the draft. For `&&` it is `*`, and for `||` it is `+`.
+    fn expand(&mut self, placeholder: &'static str) -> Result<&'a str, AllocError> {
+        let word = self.word_for(placeholder).unwrap_or("");
+        if matches!(placeholder, "A" | "B" | "C" | "E") && self.site.is_variable(word) {
             let local = self.new_local();
             write!(self.text, "load {local} {word}; ")?;
             return Ok(local);
         }
-        if word.is_empty() && matches!(mark, "R" | "S") {
+        if word.is_empty() && matches!(placeholder, "R" | "S") {
             let local = self.new_local();
-            self.meanings.push((mark, local))?;
+            self.meanings.push((placeholder, local))?;
             return Ok(local);
         }
         Ok(match word {
-            "" => mark,
+            "" => placeholder,
             "&&" => "*",
             "||" => "+",
             _ => word,
         })
     }
 
-    // Writes the template of a rule, and before each statement the loads that the statement needs.
+    // Adds to the draft what the template of a rule says to write, and before each statement the
+    // `load`s of the variables whose values it needs.
     fn write(&mut self, template: &'static str) -> Result<(), AllocError> {
         let mut statement = String::new(*self.text.allocator());
-        let begun = Form::with_keyword(self.word_of("H").unwrap_or(""));
+        let begun = Form::with_keyword(self.word_for("H").unwrap_or(""));
         let is_block = begun.is_some_and(Form::has_block);
         let mut is_close = true;
-        for mark in template.split(' ') {
+        for word in template.split(' ') {
             let space = if is_close { "" } else { " " };
-            match mark {
+            match word {
                 "." if is_block => write!(self.text, "{statement} {{ .. }} ")?,
                 "." | ";" => write!(self.text, "{statement}; ")?,
                 "{" => write!(self.text, "{statement} {{ ")?,
                 "~" => write!(statement, "{space}-")?,
-                _ => write!(statement, "{space}{}", self.expand_mark(mark)?)?,
+                _ => write!(statement, "{space}{}", self.expand(word)?)?,
             }
-            is_close = matches!(mark, "." | ";" | "{" | "~");
-            if is_close && mark != "~" {
+            is_close = matches!(word, "." | ";" | "{" | "~");
+            if is_close && word != "~" {
                 statement.clear();
             }
         }
         self.text.push_str(statement.as_str())
     }
 
-    // A whole program to try: the text up to the wrong statement or declaration, the draft in place of
-    // that, an end to each block, and all later threads with none of their statements.
+    // A whole program to try the draft in: the text before the wrong statement or declaration, the
+    // draft, a `}` for each block that is open there, and all later threads without their
+    // statements.
     fn trial_program(&self) -> Result<String, AllocError> {
         let site = self.site;
         let (mut program, mut depth) = (String::new(*self.text.allocator()), 0_usize);
@@ -166,7 +177,8 @@ impl<'a> Draft<'a> {
         Ok(program)
     }
 
-    // Whether the language takes the draft. Where the text goes on with a block, a draft needs one.
+    // Whether the draft's trial program is a program of the language. Where a block follows the
+    // wrong statement or declaration, the draft has to have a block, too.
     fn is_accepted(&self) -> Result<bool, AllocError> {
         if self.site.text(self.site.end()) == "{" && !self.text.contains("}") {
             return Ok(false);
@@ -184,10 +196,14 @@ impl<'a> Draft<'a> {
 }
 
 impl Message {
-    /// Adds notes with what is proposed in place of the statement or declaration at a place; else, if
-    /// there is a keyword, a note on how that is written.
+    /// Adds notes with what is proposed in place of the statement or declaration at the site. Where
+    /// no rule has a proposal, but there is a keyword, adds a note on how to write what it begins.
+    ///
+    /// # Errors
+    ///
+    /// `AllocError` where memory runs out.
     pub fn with_proposals(mut self, site: FaultSite<'_>) -> Result<Message, AllocError> {
-        let alloc = self.alloc();
+        let alloc = self.allocator();
         let (mut is_first, mut is_open) = (true, true);
         let first = site.keyword();
         let (words, keyword) = if site.is_in_block() {

@@ -1,4 +1,4 @@
-//! Why a text is refused, in more words.
+//! Diagnostics on why a text is refused.
 
 ghost use Rattle.std.specs.Prelude.{◌≡◌, Some, IfOk};
 ghost use Rattle.guest_syntax.specs.ErrorTexts.{syntax_error_text};
@@ -17,7 +17,7 @@ use guest_syntax::tree::Tree;
 use messages::message::{Diagnostic, Severity};
 use std::alloc::{AllocError, Global};
 
-// The place of a refusal of a text; the start of the text where memory ran out.
+// The place of a refusal of a text that spells no tree; the start of the text where memory ran out.
 fn syntax_place(error: SyntaxError) -> Pos
     ensures { result ≡ syntax_place error }
 {
@@ -32,8 +32,8 @@ fn syntax_place(error: SyntaxError) -> Pos
     }
 }
 
-// The place of a refusal of a tree, if there is one; too long a code has the place of the name of its
-// thread.
+// The place of a refusal of a tree that is no program; `None` where it has no place. Where the code
+// of a thread is too long, it is that of the thread's name.
 fn check_place(tree: &Tree, error: CheckError) -> Option<Pos>
     ensures { result ≡ check_place (tree_view tree.now) error }
 {
@@ -49,6 +49,10 @@ fn check_place(tree: &Tree, error: CheckError) -> Option<Pos>
 }
 
 /// The diagnostic on why a text spells no tree.
+///
+/// # Errors
+///
+/// `AllocError` where memory runs out.
 pub fn syntax_diagnostic(
     alloc: Global,
     text: &[u8],
@@ -65,6 +69,10 @@ pub fn syntax_diagnostic(
 }
 
 /// The diagnostic on why a tree, which the text spells, is no program.
+///
+/// # Errors
+///
+/// `AllocError` where memory runs out.
 pub fn check_diagnostic(
     alloc: Global,
     text: &[u8],

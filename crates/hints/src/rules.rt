@@ -1,16 +1,20 @@
-//! What is written for what other languages have.
+//! What to write in place of what is written in other languages, or often written wrong in this
+//! one.
 
-/// Rules `PATTERN -> TEMPLATE`: what a wrong statement or declaration is like, and what is written
-/// instead. Capital letters stand for words, in pattern and template for the same:
+/// Rules `PATTERN -> TEMPLATE`: the words of a wrong statement or declaration, and what to write
+/// instead. Capital letters are placeholders, each for the same word in the pattern and the
+/// template:
 ///
 /// - `X`: a variable, `L`: another name, `H`, `N`, `M`, `K`: any name, `D`, `I`: a number,
 /// - `A`, `B`, `C`, `E`: a local, a number, or a variable, which is loaded before,
 /// - `O`: an operator, `T`, `U`: a comparison, `F`: `+`, `-` or `*`, `G`: an operator but `*`,
-/// - `W`: `&&` or `||`, for which `*` or `+` is written between 0 and 1,
-/// - `R`, `S`: locals that are new.
+/// - `W`: `&&` or `||`, for which `*` or `+` is written between values that are 0 or 1,
+/// - `R`, `S`: new locals.
 ///
-/// A `~` is the sign of the number after it, and a `.` the end or the block of what `H` begins. After
-/// a `#` comes a comment; when a rule with a comment was used, the rules after it are tried, too.
+/// In a template, `~` is the minus sign of the number after it, and `.` the `;` or the block that
+/// ends what the keyword `H` begins. After a `#` comes a comment. Rules are tried in order up to
+/// the first that has a proposal; one with a comment doesn't end this, and later ones are tried,
+/// too.
 pub static RULES: [&str; 67] = [
     "load X L -> load L X ; # the local first",
     "load X -> load R X ;",

@@ -1,25 +1,26 @@
-//! A place of a text that is refused, and what is round it.
+//! The place at which a text is refused, and what the text has round it.
 
 use crate::forms::{Form, Slot};
-use crate::pieces::{closing_piece, is_boundary, is_first_in_line, piece_number_at, text_of};
+use crate::pieces::{closing_piece, is_boundary, is_first_in_line, piece_index_at, text_of};
 use guest_syntax::pieces::Piece;
 use guest_syntax::place::Pos;
 
-/// A place among the pieces of a text, and the statement or declaration that it is in.
+/// The place at which a text is refused, among the pieces of the text, and the statement or
+/// declaration that the place is in. A thread up to its `{` counts as a declaration.
 #[derive(Clone, Copy, Debug)]
 pub struct FaultSite<'a> {
     /// All pieces of the text.
     pub pieces: &'a [Piece<'a>],
-    /// The number of the piece at the place, or how many there are.
+    /// The index of the piece at the place; the number of pieces at the end of the text.
     pub at: usize,
-    /// The number of the first piece of the statement.
+    /// The index of the first piece of the statement or declaration.
     pub start: usize,
 }
 
 impl<'a> FaultSite<'a> {
-    /// The site of a place in the text of these pieces.
+    /// The site of a place in the text that has these pieces.
     pub fn new(pieces: &'a [Piece<'a>], place: Pos) -> FaultSite<'a> {
-        let at = piece_number_at(pieces, place);
+        let at = piece_index_at(pieces, place);
         let mut start = 0;
         for (i, piece) in pieces.iter().enumerate().take(at) {
             if is_boundary(piece) {
@@ -29,24 +30,26 @@ impl<'a> FaultSite<'a> {
         FaultSite { pieces, at, start }
     }
 
-    /// The text of the piece of a number; nothing past the last piece.
-    pub fn text(&self, number: usize) -> &'a str {
-        let piece = self.pieces.get(number);
+    /// The piece of the text at an index, as a string; an empty one past the last piece.
+    pub fn text(&self, index: usize) -> &'a str {
+        let piece = self.pieces.get(index);
         piece.map_or("", |piece| text_of(piece.text))
     }
 
-    /// The text of the piece at the place; nothing at the end of the text.
+    /// What was found at the fault's place: the piece there, as a string; an empty one at the end
+    /// of the text.
     pub fn found(&self) -> &'a str {
         self.text(self.at)
     }
 
-    /// The first piece of the statement, where the keyword should be.
+    /// The first piece of the statement or declaration with the fault, as a string: its keyword, or
+    /// what is in the keyword's stead.
     pub fn keyword(&self) -> &'a str {
         self.text(self.start)
     }
 
-    /// The number of the first piece after the statement's own: one that ends the statement or begins a
-    /// block, or the first of a later line.
+    /// The index of the first piece after the statement or declaration with the fault: a `;`, `{`
+    /// or `}`, or the first piece of a later line. The number of pieces where there is none.
     pub fn end(&self) -> usize {
         for i in self.start.saturating_add(1)..self.pieces.len() {
             if self.pieces.get(i).is_some_and(is_boundary) || is_first_in_line(self.pieces, i) {
@@ -56,7 +59,8 @@ impl<'a> FaultSite<'a> {
         self.pieces.len()
     }
 
-    /// What the form of the statement has at the place. The sign of a number has no place of its own.
+    /// What has to be at the fault's place, by the form of the statement or declaration. `None`
+    /// where the keyword is wrong, or the form ends before. A number and its sign fill one slot.
     pub fn slot(&self) -> Option<Slot> {
         let form = Form::with_keyword(self.keyword())?;
         let mut places = 0;
@@ -69,8 +73,8 @@ impl<'a> FaultSite<'a> {
         form.slot(places)
     }
 
-    /// Whether the statement may end before the place: the form allows an end, and the place is the
-    /// first of a line, or the end of the text.
+    /// Whether the statement or declaration may end before the fault's place, with a `;` that is
+    /// missing: its form may end there, and the piece there begins a line, or the text has ended.
     pub fn may_end_before(&self) -> bool {
         let may_end = match (self.slot(), self.keyword()) {
             (Some(Slot("OP")), keyword) => keyword != "if",
@@ -80,19 +84,20 @@ impl<'a> FaultSite<'a> {
         may_end && (self.at >= self.pieces.len() || is_first_in_line(self.pieces, self.at))
     }
 
-    /// Whether some block is round the place: one that is never closed, or is closed after the place.
+    /// Whether the fault's place is in a block: one that is closed there, or later, or never.
     pub fn is_in_block(&self) -> bool {
         let is_open = |open| closing_piece(self.pieces, open).is_none_or(|close| self.at <= close);
         (0..self.at).any(|i| self.text(i) == "{" && is_open(i))
     }
 
-    /// Whether a variable with this name is declared before the statement.
+    /// Whether a variable with this name is declared before the faulty statement or declaration.
     pub fn is_variable(&self, name: &str) -> bool {
         let mut all = 1..self.start;
         all.any(|i| self.text(i) == name && self.text(i.saturating_sub(1)) == "var")
     }
 
-    /// Whether a local has this name: the name stands right after a keyword that fills a local.
+    /// Whether a local has this name: somewhere in the text, the name follows the keyword of a
+    /// statement that gives a local a value.
     pub fn is_local(&self, name: &str) -> bool {
         let mut all = 1..self.pieces.len();
         let is_filling = |at: usize| matches!(self.text(at), "load" | "set" | "add" | "cas");

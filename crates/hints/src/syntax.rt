@@ -1,16 +1,21 @@
-//! The words of refusals of a text that spells no tree.
+//! What is said of a text that spells no tree, beside the short form of its refusal.
 
 use crate::braces::missing_brace;
 use crate::forms::Slot;
+use crate::keywords::{declaration_keyword, statement_keyword, unsupported_hint};
 use crate::message::Message;
 use crate::pieces::{is_number, span_at, text_of};
 use crate::site::FaultSite;
-use crate::slips::{declaration_keyword, hint_without_statement, statement_keyword};
 use guest_syntax::SyntaxError;
 use guest_syntax::limits::{DEPTH, NUMBER};
 use std::alloc::{AllocError, Global};
 
-/// The message of a text that is refused with this error at a place.
+/// What is wrong with a text that spells no tree, by its error and the error's site, and what to
+/// write instead. The message is empty where memory ran out, which is no fault of the text.
+///
+/// # Errors
+///
+/// `AllocError` where memory runs out.
 pub fn syntax_message(
     alloc: Global,
     site: FaultSite<'_>,
@@ -33,7 +38,8 @@ pub fn syntax_message(
     }
 }
 
-// What is said of a text with a byte above 127.
+// What is said of a text with a byte above 127: that it begins with a byte order mark, or else that
+// a text has to be ASCII.
 fn not_ascii_text(text: &[u8]) -> &'static str {
     if text.starts_with(b"\xef\xbb\xbf") {
         "a byte order mark: save the file without one"
@@ -42,7 +48,7 @@ fn not_ascii_text(text: &[u8]) -> &'static str {
     }
 }
 
-// What is said of a byte that begins no token.
+// What is said of the byte at the site, with which no token begins.
 fn bad_byte_text(site: FaultSite<'_>) -> &'static str {
     let is_outside = !site.is_in_block();
     match (site.found(), site.text(site.at.saturating_add(1))) {
@@ -66,7 +72,7 @@ fn bad_byte_text(site: FaultSite<'_>) -> &'static str {
     }
 }
 
-// The message of a number above the limit of its place.
+// The message on a number that is too large: which numbers may be there, or the greatest of all.
 fn too_big_message(alloc: Global, site: FaultSite<'_>) -> Result<Message, AllocError> {
     match site.slot() {
         Some(slot @ Slot("COUNT" | "TIMES")) => {
@@ -76,7 +82,7 @@ fn too_big_message(alloc: Global, site: FaultSite<'_>) -> Result<Message, AllocE
     }
 }
 
-// The message of a token where a declaration or a thread would be.
+// The message on a token outside all blocks that begins neither a declaration nor a thread.
 fn outside_message(alloc: Global, site: FaultSite<'_>) -> Result<Message, AllocError> {
     let found = site.found();
     let is_late = (0..site.at).any(|i| site.text(i) == "thread");
@@ -97,10 +103,11 @@ fn outside_message(alloc: Global, site: FaultSite<'_>) -> Result<Message, AllocE
     }
 }
 
-// The message of a token where a statement would be.
+// The message on a token in a block, or on the end of the text there, where a statement or a `}`
+// has to be.
 fn in_block_message(alloc: Global, site: FaultSite<'_>) -> Result<Message, AllocError> {
     let found = site.found();
-    if let Some(text) = hint_without_statement(found) {
+    if let Some(text) = unsupported_hint(found) {
         return Message::new(alloc, "a statement or `}` was expected")?.with_note(text);
     }
     match found {
@@ -113,7 +120,7 @@ fn in_block_message(alloc: Global, site: FaultSite<'_>) -> Result<Message, Alloc
     }
 }
 
-// What is said of a word or a mark where a statement would be.
+// What is said of a token in a block that begins no statement, where one has to begin.
 fn no_statement_text(site: FaultSite<'_>) -> &'static str {
     let next = site.at.saturating_add(1);
     match (
@@ -132,7 +139,8 @@ fn no_statement_text(site: FaultSite<'_>) -> &'static str {
     }
 }
 
-// The message of the end of the text, or of the next thread, inside a block.
+// The message on a `thread`, or on the end of the text, in a block where a statement or a `}` has
+// to be: which block's `}` seems to be missing, or else that no thread is inside another.
 fn open_block_message(alloc: Global, site: FaultSite<'_>) -> Result<Message, AllocError> {
     let message = Message::new(alloc, "a statement or `}` was expected")?;
     match missing_brace(site.pieces, site.at) {
@@ -141,7 +149,9 @@ fn open_block_message(alloc: Global, site: FaultSite<'_>) -> Result<Message, All
     }
 }
 
-// The message of a token inside a statement or a declaration.
+// The message on a wrong token within a statement or a declaration, or on the end of the text
+// there: what was expected, and whether a `;` seems to be missing before it, or what to write
+// instead.
 fn in_statement_message(alloc: Global, site: FaultSite<'_>) -> Result<Message, AllocError> {
     let slot = site.slot().unwrap_or(Slot(";"));
     let other = match (slot, site.keyword()) {

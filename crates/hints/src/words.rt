@@ -1,14 +1,16 @@
-//! What a wrong statement or declaration seems to say, in words of this language.
+//! What a wrong statement or declaration seems to say, in words of this language, as the patterns
+//! of rules have them.
 
 use crate::forms::{DECLARATIONS, STATEMENTS};
+use crate::keywords::{declaration_keyword, nearest_keyword, statement_keyword};
 use crate::pieces::is_name;
 use crate::site::FaultSite;
-use crate::slips::{declaration_keyword, nearest_keyword, statement_keyword};
 use std::alloc::{AllocError, Global};
 
 impl<'a> FaultSite<'a> {
-    // Adds the words that a piece stands for: a method comes before the object that it is called on, and
-    // marks and types that only other languages have add nothing.
+    // Adds to `words` what the piece at index `at` says in this language. Of other languages, `and`
+    // becomes `&&`, `true` becomes `1`, `not x` becomes `x == 0`, and `x.load` becomes `load x`.
+    // Parentheses, commas, the types of variables and memory orders add nothing.
     fn push_word(self, words: &mut Vec<&'a str>, at: usize) -> Result<(), AllocError> {
         let (before, word) = (self.text(at.saturating_sub(1)), self.text(at));
         match (before, word) {
@@ -39,17 +41,22 @@ impl<'a> FaultSite<'a> {
         Ok(())
     }
 
-    /// The words of the statement at the place, with keywords of this language where others seem meant.
+    /// The words of the statement at the site in this language: keywords and operators of other
+    /// languages are translated, and a misspelt keyword is replaced by the nearest one.
+    ///
+    /// # Errors
+    ///
+    /// `AllocError` where memory runs out.
     pub fn statement_words(self, alloc: Global) -> Result<Vec<&'a str>, AllocError> {
         let mut words = Vec::new(alloc);
         let end = self.end();
-        // a loop of one load says what it waits for
+        // a `while` whose block is one `load` is taken with its block, for the rules on waiting
         let end = match (self.keyword(), self.text(end.saturating_add(1))) {
             ("while", "load") if self.text(end.saturating_add(5)) == "}" => end.saturating_add(6),
             _ => end,
         };
         for at in self.start..end {
-            // a local is not declared
+            // the `int` or `let` of a local is left out, since a local isn't declared
             if !words.is_empty() || declaration_keyword(self.text(at)) != Some("var") {
                 self.push_word(&mut words, at)?;
             }
@@ -65,7 +72,12 @@ impl<'a> FaultSite<'a> {
         Ok(words)
     }
 
-    /// The words of the declaration at the place, or of the head of a thread, the keyword first.
+    /// The words of the declaration at the site in this language, or of a thread up to its `{`. The
+    /// first is the keyword that seems meant; an empty word where none is near.
+    ///
+    /// # Errors
+    ///
+    /// `AllocError` where memory runs out.
     pub fn declaration_words(self, alloc: Global) -> Result<Vec<&'a str>, AllocError> {
         let (mut words, mut kind) = (Vec::new(alloc), None);
         for at in self.start..self.end() {
@@ -91,7 +103,13 @@ impl<'a> FaultSite<'a> {
     }
 }
 
-/// The words of an assignment, with `=` after the name; those of any other statement unchanged.
+/// The words of a statement, brought to the form `x = 1` or `x = x + 1` where it gives `x` a value:
+/// by `load`, `store` or `set`, by an operator as `+=`, or by `++` or `--`. Other words stay as
+/// they are.
+///
+/// # Errors
+///
+/// `AllocError` where memory runs out.
 pub fn assignment_words<'a>(alloc: Global, words: &[&'a str]) -> Result<Vec<&'a str>, AllocError> {
     let (given, is_assignment) = match words {
         ["load" | "store" | "set", given @ ..] => (given, true),

@@ -68,12 +68,12 @@ impl Item {
         })
     }
 
-    /// The item of the schedules that begin with a prefix that is known to run: it isn't replayed.
+    /// The item of the schedules that begin with a prefix that is known to run and isn't replayed.
     ///
     /// # Errors
     ///
     /// `AllocError` where memory runs out.
-    pub fn running(alloc: Global, program: Arc<Program>, prefix: &[u8]) -> Result<Item, AllocError>
+    pub fn at_known(alloc: Global, program: Arc<Program>, prefix: &[u8]) -> Result<Item, AllocError>
         requires { IsItem (item_at (arc_value program) prefix.now) }
         ensures { IfOk result (λ i. i ≡ item_at (arc_value program) prefix.now) }
     {
@@ -85,8 +85,8 @@ impl Item {
         })
     }
 
-    /// Whether the two are of equal programs and have equal prefixes and masks.
-    pub fn is_same(&self, other: &Item) -> bool
+    /// Whether two items are of equal programs and have equal prefixes and masks.
+    pub fn equals(&self, other: &Item) -> bool
         ensures { IsTrue result ↔ (self.now ≡ other.now) }
     {
         self.prefix.as_slice() == other.prefix.as_slice()
@@ -112,13 +112,13 @@ impl Item {
         })
     }
 
-    /// Becomes the item of its program's schedules that begin with a prefix that is known to run.
-    /// The memory of its own prefix serves the new one.
+    /// Makes this the item of the schedules of the same program that begin with another prefix,
+    /// which is known to run. The memory of the old prefix serves the new one.
     ///
     /// # Errors
     ///
-    /// `AllocError` where memory runs out; it is then as before.
-    pub fn run_to(&mut self, prefix: &[u8]) -> Result<(), AllocError>
+    /// `AllocError` where memory runs out; the item is then as before.
+    pub fn set_prefix(&mut self, prefix: &[u8]) -> Result<(), AllocError>
         requires { IsItem (item_at self.old.program prefix.now) }
         ensures item { OnOk result (self.new ≡ item_at self.old.program prefix.now) }
         ensures same { OnErr result (self.new ≡ self.old) }
@@ -131,12 +131,12 @@ impl Item {
         Ok(())
     }
 
-    /// The item of the same program after these steps and one more, where these threads sleep.
+    /// The same program's item after `steps` and a step of `thread`; those of `mask` sleep there.
     ///
     /// # Errors
     ///
     /// `AllocError` where memory runs out.
-    pub fn further(
+    pub fn with_prefix(
         &self,
         alloc: Global,
         steps: &[u8],
@@ -164,14 +164,14 @@ impl Item {
         })
     }
 
-    /// The program.
+    /// The program that the item is of.
     pub fn program(&self) -> &Program
         ensures { result.now ≡ self.now.program }
     {
         &self.program
     }
 
-    /// The program, to share it further.
+    /// The program that the item is of, to be shared further.
     pub fn shared_program(&self) -> &Arc<Program>
         ensures { arc_value result.now ≡ self.now.program }
     {
@@ -194,7 +194,7 @@ impl Item {
     }
 }
 
-/// Whether the same threads are in both.
+/// Whether two masks have the same threads.
 pub fn same_masks(first: Mask, second: Mask) -> bool
     ensures { IsTrue result ↔ (first ≡ second) }
 {

@@ -32,8 +32,8 @@ pub fn root_has_all()
 {}
 
 /// Within a bound an item has the complete schedules that begin with its prefix and whose
-/// preemptions are within it; pruned, those that sleep sets leave after its prefix. They are in
-/// order and each once. It goes beyond the bound where one of the complete ones has more.
+/// preemptions are within the bound; pruned, those that sleep sets leave after its prefix. Either
+/// are in order and each once. An item goes beyond the bound where a complete one has more.
 pub fn items_have_their_schedules()
     ensures members { (i : ItemView) (bound : ℕ) (w : List ℕ) →
         Contains (schedules_of (Bounded bound) i) w ↔
@@ -102,8 +102,8 @@ pub fn tried_come_first()
 
 // What a bound puts off.
 
-/// What was left and what was put off lies under the walked item: it is of its program, runs in
-/// it, and begins with its prefix.
+/// What was left and what was put off lies under the walked item: it is of the same program, runs
+/// in that, and begins with the walked item's prefix.
 pub fn rest_and_deferred_lie_under_the_item()
     ensures { (w : WalkView) → IsWalked w → All (IsBelow w.item) (w.rest ++ w.deferred) }
 {}
@@ -118,7 +118,7 @@ pub fn full_sums_join()
 {}
 
 /// Each of the item's schedules past the bound lies under an item of the rest or of what was put
-/// off. The rest is within the bound, and what was put off is just past it by its last step.
+/// off. The rest is within the bound; what was put off is past the bound by its last step alone.
 pub fn what_is_past_is_kept()
     ensures all { (w : WalkView) (bound : ℕ) → IsWalked w → w.mode ≡ Bounded bound →
         HasAllPast bound w.item (w.rest ++ w.deferred) }

@@ -21,28 +21,30 @@ pub struct PartPlace {
 /// Why parts don't join to a report.
 #[derive(Debug, Drop)]
 pub enum JoinError {
-    /// This prefix begins a schedule that is under no part, and no part is under this prefix.
+    /// Some schedule of the program begins with this prefix and with the prefix of no part, and no
+    /// part's prefix begins with this one.
     Missing(Vec<u8>),
-    /// The first of these prefixes of parts begins the second.
+    /// Both are prefixes of parts, and the second begins with the first.
     Nested(Vec<u8>, Vec<u8>),
     /// None of the program's schedules begins with this prefix of a part.
     Unused(Vec<u8>),
-    /// No part tells what is under this prefix at this bound.
+    /// No part says what is under this prefix at this bound.
     Lacks(PartPlace),
-    /// A part that was cut short alone tells what is under this prefix at this bound.
+    /// Only parts that were cut short say what is under this prefix at this bound.
     Cut(PartPlace),
-    /// Two parts tell different things of this prefix at this bound.
+    /// Two parts of this prefix and bound, neither cut short, have different summaries.
     Disagree(PartPlace),
-    /// A part of this prefix at this bound tells a schedule that isn't a bad one of the program,
-    /// that doesn't begin with the prefix, or that isn't within the bound.
+    /// A part of this prefix and bound names a schedule that isn't a bad one of the program,
+    /// doesn't begin with the prefix, or isn't within the bound.
     Untrue(PartPlace),
     /// Memory ran out.
     OutOfMemory,
 }
 
 impl JoinError {
-    /// Whether more parts, of a search of what is missing, would help.
-    pub fn needs_work(&self) -> bool
+    /// Whether more parts would help: a prefix or a bound has no part, or only parts that were cut
+    /// short. Else a part that is there is wrong, or memory ran out.
+    pub fn needs_more_parts(&self) -> bool
         ensures { result ≡ needs_work self.now }
     {
         match self {
@@ -51,7 +53,7 @@ impl JoinError {
         }
     }
 
-    /// What the user is told, in one line without its end.
+    /// The message for the user: one line, without a line feed.
     ///
     /// # Errors
     ///
@@ -60,13 +62,18 @@ impl JoinError {
         ensures { IfOk result (λ text. text.items ≡ join_error_text self.now) }
     {
         match self {
-            JoinError::Missing(prefix) => phrase(alloc, b"nothing under ", prefix, b""),
+            JoinError::Missing(prefix) => prefix_phrase(alloc, b"nothing under ", prefix, b""),
             JoinError::Nested(outer, inner) => {
-                let mut text = phrase(alloc, b"", outer, b" holds ")?;
-                text.extend_from_slice(phrase(alloc, b"", inner, b" too")?.as_slice())?;
+                let mut text = prefix_phrase(alloc, b"", outer, b" holds ")?;
+                text.extend_from_slice(prefix_phrase(alloc, b"", inner, b" too")?.as_slice())?;
                 Ok(text)
             }
-            JoinError::Unused(prefix) => phrase(alloc, b"no schedule begins with ", prefix, b""),
+            JoinError::Unused(prefix) => prefix_phrase(
+                alloc,
+                b"no schedule begins with ",
+                prefix,
+                b"",
+            ),
             JoinError::Lacks(place) => place_phrase(alloc, b"nothing", place),
             JoinError::Cut(place) => place_phrase(alloc, b"cut short", place),
             JoinError::Disagree(place) => place_phrase(alloc, b"two parts disagree", place),
@@ -77,7 +84,7 @@ impl JoinError {
 }
 
 // A prefix in its printed spelling, with words before and after it.
-fn phrase(
+fn prefix_phrase(
     alloc: Global,
     before: &[u8],
     prefix: &Vec<u8>,
@@ -92,7 +99,7 @@ fn phrase(
     Ok(text)
 }
 
-// Words, and after them the bound of a place, if it has one, and its prefix.
+// These words, and after them the bound of a place, if it has one, and its prefix.
 fn place_phrase(alloc: Global, words: &[u8], place: &PartPlace) -> Result<Vec<u8>, AllocError>
     ensures { IfOk result (λ text. text.items ≡ words.now ++ place_text place.now) }
 {
@@ -101,7 +108,7 @@ fn place_phrase(alloc: Global, words: &[u8], place: &PartPlace) -> Result<Vec<u8
         text.extend_from_slice(b" at bound ")?;
         text.extend_from_slice(decimal(alloc, u64::from(bound))?.as_bytes())?;
     }
-    text.extend_from_slice(phrase(alloc, b" under ", &place.under, b"")?.as_slice())?;
+    text.extend_from_slice(prefix_phrase(alloc, b" under ", &place.under, b"")?.as_slice())?;
     Ok(text)
 }
 
@@ -120,6 +127,7 @@ impl From<CoverError> for JoinError {
 
     ghost from_gives = { λ e error. error ≡ of_cover e };
 
+    // What is wrong with the parts where their prefixes are no cover: the variant of the same name.
     fn from(error: CoverError) -> JoinError {
         match error {
             CoverError::Missing(prefix) => JoinError::Missing(prefix),

@@ -11,9 +11,9 @@ ghost use Rattle.guest_code.specs.Program.{Program};
 ghost use Rattle.joining.specs.Parts.{AreHonest, AreApart, IsTrue, Tells, JoinErrorMeans, prefixes_for, last_mode, mode_at, options_of};
 ghost use Rattle.joining.specs.inner.Sums.{TellSums, IsFirstOfPart, GoesOnAt};
 
+use crate::bad_schedules::check_schedules;
+use crate::by_prefix::{PartsByPrefix, is_cut_short};
 use crate::error::{JoinError, PartPlace};
-use crate::lines::{PartsByPrefix, is_cut};
-use crate::schedules_told::check_schedules;
 use cover::cover_by;
 use guest_code::program::Program;
 use items::item::Item;
@@ -25,7 +25,8 @@ use std::alloc::{AllocError, Global};
 use std::sync::Arc;
 use summary::Summary;
 
-// What `join` joins: the parts of a search of a program, and the items of their prefixes.
+// What `join` works on: a search of a program, the parts of it, and the items of their prefixes,
+// which cover the program.
 #[derive(Clone, Copy)]
 struct Joining<'a, 'p> {
     program: &'a Program,
@@ -34,11 +35,13 @@ struct Joining<'a, 'p> {
     items: &'a [Item],
 }
 
-/// The report of a search of the program, from parts of the search: where each part is the sum of
-/// what is under its prefix at its bound, the report is one of the program. The guests of the parts
-/// aren't looked at. A part where nothing is beyond its bound and nothing is bad stands for each
-/// greater bound; a part that was cut short is never used. Parts that weren't cut short are refused,
-/// used or not, where two tell different things of one prefix at one bound.
+/// The report of a search of the program, from parts of the search: where the summary of each part
+/// is that of all schedules under its prefix at its bound, the report is one that a search of the
+/// whole program may give. That the parts are of this program isn't tested: the guests that they
+/// name aren't looked at. A part where nothing is beyond its bound and nothing is bad stands for
+/// each greater bound, too; a part that was cut short is never used. Where two parts of one prefix
+/// and bound that weren't cut short have different summaries, all are refused, even if the report
+/// needs neither.
 ///
 /// # Errors
 ///
@@ -55,7 +58,7 @@ pub fn join(
     ensures error { IfErr result (JoinErrorMeans (arc_value program.now) search parts.now) }
 {
     check_schedules(alloc, program, parts)?;
-    let by_prefix = PartsByPrefix::of(alloc, parts)?;
+    let by_prefix = PartsByPrefix::new(alloc, parts)?;
     by_prefix.check_agreement(alloc)?;
     let last = last_bound(search);
     let prefixes = prefixes_for(alloc, search, parts)?;
@@ -84,7 +87,9 @@ pub fn join(
     }
 }
 
-// The prefixes of the parts that a search uses: of those with a bound, or of those without one.
+// The prefixes of the parts that can be of a search, in the parts' order: of those with a bound
+// where the search has one, else of those without. A prefix is listed once for each part that has
+// it.
 fn prefixes_for<'a>(
     alloc: Global,
     search: Search,
@@ -102,7 +107,8 @@ fn prefixes_for<'a>(
 }
 
 impl Joining<'_, '_> {
-    // The report of the search, if the search ends at this bound.
+    // The report of the search, if the search ends at this bound: at its last one, or where a
+    // schedule is bad, or none is beyond the bound. `None` where it goes on to the next bound.
     fn report_at(&self, alloc: Global, bound: Option<u32>) -> Result<Option<Report>, JoinError>
         requires of { IsModeOf self.now.search (mode_at bound) }
         requires schedules { All (IsTrue self.now.program.now) self.now.parts.now.parts.now }
@@ -125,7 +131,8 @@ impl Joining<'_, '_> {
         }
     }
 
-    // What the parts tell of all items at the bound, joined to one summary.
+    // The summary of the whole program at a bound: for each item that of the part for its prefix,
+    // all joined. An error where an item has no such part.
     fn sum_at(&self, alloc: Global, bound: Option<u32>) -> Result<Summary, JoinError>
         requires of { IsModeOf self.now.search (mode_at bound) }
         requires listed { All (λ i. Contains
@@ -139,14 +146,15 @@ impl Joining<'_, '_> {
     {
         let mut sum = Summary::empty(alloc);
         for item in self.items {
-            let part = self.part_of(alloc, item, bound)?;
+            let part = self.part_for(alloc, item, bound)?;
             sum = sum.join(alloc, &part.level.summary)?;
         }
         Ok(sum)
     }
 
-    // The part that tells what is under the item's prefix at the bound.
-    fn part_of(&self, alloc: Global, item: &Item, bound: Option<u32>) -> Result<&Part, JoinError>
+    // The first part that answers for an item's prefix at a bound: that says what is under it
+    // there, and wasn't cut short. `Cut` or `Lacks` where there is none.
+    fn part_for(&self, alloc: Global, item: &Item, bound: Option<u32>) -> Result<&Part, JoinError>
         requires of { IsModeOf self.now.search (mode_at bound) }
         requires listed { Contains (prefixes_for self.now.search self.now.parts.now.parts.now)
             item.now.prefix }
@@ -156,14 +164,15 @@ impl Joining<'_, '_> {
             IfErr result (JoinErrorMeans p self.now.search self.now.parts.now.parts.now) }
     {
         let Some(part) = self.parts.part_at(item.prefix(), bound) else {
-            return Err(lack_error(alloc, self.parts.parts, item.prefix(), bound)?);
+            return Err(no_part_error(alloc, self.parts.parts, item.prefix(), bound)?);
         };
         Ok(part)
     }
 }
 
-// The error where no part tells what is under a prefix at a bound: `Cut` or `Lacks`.
-fn lack_error(
+// The error where no part says what is under a prefix at a bound and wasn't cut short: `Cut` where
+// a part of this prefix and bound was, else `Lacks`.
+fn no_part_error(
     alloc: Global,
     parts: &[Part],
     prefix: &[u8],
@@ -178,14 +187,14 @@ fn lack_error(
         under: prefix.to_vec(alloc)?,
         bound,
     };
-    if is_cut(parts, &place) {
+    if is_cut_short(parts, &place) {
         Ok(JoinError::Cut(place))
     } else {
         Ok(JoinError::Lacks(place))
     }
 }
 
-// The mode of a search at a bound, or of a search without one.
+// The mode in which a search walks at a bound; without a bound the one with sleep sets.
 fn mode_of(bound: Option<u32>) -> Mode
     ensures { result ≡ mode_at bound }
 {
@@ -195,7 +204,7 @@ fn mode_of(bound: Option<u32>) -> Mode
     }
 }
 
-// The last bound of a search, or none of a search without a bound.
+// The last bound of a search; `None` where it is unbounded.
 fn last_bound(search: Search) -> Option<u32>
     ensures mode { mode_at result ≡ last_mode search }
     ensures of { IsModeOf search (mode_at result) }

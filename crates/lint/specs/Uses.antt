@@ -121,7 +121,7 @@ releases s _ = false
 abbrev pub does : Use → ℕ → Instruction → Bool
 does uses.Reads n i = reads n i
 does uses.Sets n i = sets n i
-does uses.Fills n i = fills n i
+does uses.OnlySets n i = fills n i
 does uses.Loads n i = loads n i
 does uses.Stores n i = stores n i
 does uses.OfMutex n i = names_mutex n i

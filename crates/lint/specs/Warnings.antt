@@ -56,7 +56,7 @@ LocksAgain code k = (m : ℕ) × Locks (slice_index_or code k (Skip 0)) m
 -- from after instruction k some path, on which local r isn't tested after it got a value, leads to a
 -- statement that acts, or to the end
 abbrev pub IsUnseen : List Instruction → (r k : ℕ) → Type 0
-IsUnseen code r k = (j : ℕ) × (b : Bool) × Comes code (watches.Unseen r) (suc k) false j b
+IsUnseen code r k = (j : ℕ) × (b : Bool) × Comes code (watches.Untested r) (suc k) false j b
     × ActsAt code j
 
 -- instruction k waits for a condition, and no local is looked at again whatever comes
@@ -81,7 +81,7 @@ WaitsElsewhere p i = ⊥
 -- what is warned of is so, by its number
 abbrev pub IsSo : Program → WarningKind → ℕ → Type 0
 IsSo p (kinds.NeverSet t) r = UsesIn p t uses.Reads r × ¬ UsesIn p t uses.Sets r
-IsSo p (kinds.NeverRead t) r = UsesIn p t uses.Fills r × ¬ UsesIn p t uses.Reads r
+IsSo p (kinds.NeverRead t) r = UsesIn p t uses.OnlySets r × ¬ UsesIn p t uses.Reads r
 IsSo p kinds.UnusedVariable x = (¬ UsesAnywhere p uses.Loads x) × ¬ UsesAnywhere p uses.Stores x
 IsSo p kinds.NeverStored x = UsesAnywhere p uses.Loads x × ¬ UsesAnywhere p uses.Stores x
 IsSo p kinds.NeverLoaded x = UsesAnywhere p uses.Stores x × ¬ UsesAnywhere p uses.Loads x

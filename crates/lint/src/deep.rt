@@ -1,5 +1,5 @@
-//! What the schedules that sleep sets leave show of a program, gone through one after the other by
-//! the plain step and by taking it back.
+//! What the schedules that sleep sets leave show of a program, gone through one after the other: by
+//! steps of the state, and by taking steps back.
 
 ghost use Rattle.std.specs.Prelude.{◌<◌, ◌≡◌, length, IfOk, IfSome, OnOk, IsTrue};
 ghost use Rattle.semantics.specs.Machine.{is_enabled};
@@ -19,8 +19,8 @@ use semantics::state::{Action, State, Status, Stop};
 use semantics::undo::Undo;
 use std::alloc::{AllocError, Global};
 
-/// A step that was taken: who slept before the step, the thread that is tried next in the state before
-/// the step, and how to take the step back.
+/// A step that was taken, to go back to the node before it: the sleep set there, the first thread
+/// that is still to be tried there, and how to take the step back.
 #[derive(Drop)]
 pub struct Frame {
     asleep: Mask,
@@ -28,8 +28,8 @@ pub struct Frame {
     undo: Undo,
 }
 
-/// Where the walk is: a state, the steps that have led there and their threads, who sleeps there and the
-/// thread that is tried next.
+/// Where the walk is: a state, the frames of the steps that have led there and their threads, the
+/// sleep set there, and the first thread that is still to be tried there.
 #[derive(Drop)]
 pub struct Tour {
     state: State,
@@ -39,14 +39,15 @@ pub struct Tour {
     next: u8,
 }
 
-/// What schedules have shown, and whether all that sleep sets leave were gone through.
+/// What the schedules gone through have shown, and whether these are all that sleep sets leave.
 #[derive(Drop)]
 pub struct Explored {
     pub seen: Seen,
     pub is_whole: bool,
 }
 
-// The locals of a thread after a step that does this action, by the values of the variables before.
+// The locals of a thread after a step that does this action, by its locals and the values of the
+// variables before the step.
 fn locals_after(mut locals: [i64; LOCALS], variables: &[i64], action: Action) -> [i64; LOCALS]
     requires { (p : Program) × IsValidAction p action
         × (length variables.now ≡ length p.variables) }
@@ -58,7 +59,8 @@ fn locals_after(mut locals: [i64; LOCALS], variables: &[i64], action: Action) ->
     locals
 }
 
-// Whether a thread's next step is a `signal` for which two threads or more wait.
+// Whether a thread is at a `signal` of a condition for which two threads or more wait in this
+// state.
 fn signals_one_of_many(program: &Program, state: &State, thread: u8) -> bool
     requires of { IsOf program.now state.now }
     requires thread { thread < length program.now.threads }
@@ -75,7 +77,8 @@ fn signals_one_of_many(program: &Program, state: &State, thread: u8) -> bool
     waiting >= 2
 }
 
-// Whether a thread that a step left in this status ran on by itself at the end of the step.
+// Whether a thread whose step left it in this status had a local run after the step. It had none
+// where it waits, or stopped at the statement of the step.
 fn has_run_locally(status: Status) -> bool {
     match status {
         Status::Running | Status::Woken | Status::Ended | Status::Stopped(Stop::Assert) => true,
@@ -83,7 +86,8 @@ fn has_run_locally(status: Status) -> bool {
     }
 }
 
-// The first thread from thread `from` on that can take a step and doesn't sleep.
+// The first thread, from thread `from` on, that is enabled and not in the sleep set; `None` where
+// there is none.
 fn next_thread(program: &Program, state: &State, asleep: Mask, from: u8) -> Option<u8>
     requires { IsOf program.now state.now }
     ensures there { IfSome result (λ t. t < length program.now.threads) }
@@ -97,8 +101,9 @@ fn next_thread(program: &Program, state: &State, asleep: Mask, from: u8) -> Opti
     None
 }
 
-// Takes a step of an enabled thread, and sees what is carried out. The answer takes the step back.
-fn step_and_see(
+// Takes a step of an enabled thread, and notes what is seen in it and in its local run. The answer
+// is how to take the step back.
+fn step_and_note(
     program: &Program,
     state: &mut State,
     seen: &mut Seen,
@@ -115,17 +120,17 @@ fn step_and_see(
     let action = state.next(program, thread).unwrap();
     let locals = locals_after(*state.locals(thread), state.variables(), action);
     if signals_one_of_many(program, state, thread) {
-        seen.see_signal_to_many(step, at)?;
+        seen.note_signal_to_many(step, at)?;
     }
     let undo = state.step(program, thread);
     if has_run_locally(state.status(thread)) {
-        seen.see_step(step, at, locals)?;
+        seen.note_step(step, at, locals)?;
     }
     Ok(undo)
 }
 
-// Sees what each thread carries out before its first step.
-fn see_start(program: &Program, seen: &mut Seen, spins: &[Spin]) -> Result<(), AllocError> {
+// Notes what is seen in the local run of each thread before the first step.
+fn note_start(program: &Program, seen: &mut Seen, spins: &[Spin]) -> Result<(), AllocError> {
     for thread in 0..program.threads() {
         let step = SeenStep {
             spins,
@@ -133,13 +138,13 @@ fn see_start(program: &Program, seen: &mut Seen, spins: &[Spin]) -> Result<(), A
             thread,
             code: program.code(thread),
         };
-        seen.see_run(step, 0, [0; LOCALS])?;
+        seen.note_run(step, 0, [0; LOCALS])?;
     }
     Ok(())
 }
 
 impl Tour {
-    // A walk that is at the first state of a program.
+    // A walk that is at the initial state of a program, where no thread sleeps or was tried.
     fn new(alloc: Global, program: &Program) -> Result<Tour, AllocError>
         ensures { IfOk result (IsTour program.now) }
     {
@@ -152,8 +157,9 @@ impl Tour {
         })
     }
 
-    // Goes on by a step of a thread, after which those sleep that sleep sets say, and sees the step.
-    fn enter(
+    // Takes a step of an enabled thread, notes what is seen in it, and goes to the node after it,
+    // with the sleep set there. No thread was tried there yet.
+    fn advance(
         &mut self,
         program: &Program,
         seen: &mut Seen,
@@ -174,7 +180,7 @@ impl Tour {
             thread,
             code: program.code(thread),
         };
-        let undo = step_and_see(program, &mut self.state, seen, step)?;
+        let undo = step_and_note(program, &mut self.state, seen, step)?;
         self.frames.push(Frame {
             asleep: self.asleep,
             next: thread + 1,
@@ -185,8 +191,9 @@ impl Tour {
         Ok(())
     }
 
-    // Goes back by taking the last step back; false where no step is left.
-    fn leave(&mut self, program: &Program) -> bool
+    // Goes back to the node before the last step, by taking the step back. False where no step is
+    // left: the walk is at the initial state.
+    fn backtrack(&mut self, program: &Program) -> bool
         requires { IsTour program.now self.old }
         ensures { IsTour program.now self.new }
     {
@@ -201,7 +208,12 @@ impl Tour {
     }
 }
 
-/// Goes through the schedules that sleep sets leave, up to a limit of ends, and sees what they show.
+/// Goes through the schedules that sleep sets leave, and those that they cut short, until `limit`
+/// of them have ended, and notes what they show.
+///
+/// # Errors
+///
+/// `AllocError` where memory runs out.
 pub fn explore(
     alloc: Global,
     program: &Program,
@@ -209,13 +221,13 @@ pub fn explore(
     limit: u64,
 ) -> Result<Explored, AllocError> {
     let mut seen = Seen::new(alloc, program, spins.len())?;
-    see_start(program, &mut seen, spins)?;
+    note_start(program, &mut seen, spins)?;
     let mut tour = Tour::new(alloc, program)?;
     let mut left = limit;
     let mut is_whole = false;
     'ends: for _ in 0..u64::MAX {
         if let Some(thread) = next_thread(program, &tour.state, tour.asleep, tour.next) {
-            tour.enter(program, &mut seen, spins, thread)?;
+            tour.advance(program, &mut seen, spins, thread)?;
             continue;
         }
         if tour.next == 0 {
@@ -224,7 +236,7 @@ pub fn explore(
             }
             left -= 1;
         }
-        if !tour.leave(program) {
+        if !tour.backtrack(program) {
             is_whole = true;
             break;
         }

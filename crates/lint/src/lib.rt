@@ -1,14 +1,16 @@
 //! What is odd about a program: its warnings, and what its schedules show.
 //!
-//! [`warnings::all_warnings`] answers the warnings that are so by `IsSo` of `specs/Warnings.antt`,
-//! which is defined over the flat code, and no others. What a path through the code of a thread is,
-//! is said in `specs/Paths.antt`; all paths are looked at in one pass, since jumps go forwards.
+//! [`warnings::all_warnings`] answers exactly the warnings that hold by `IsSo` of
+//! `specs/Warnings.antt`, which is defined over the flat code. What a path through the code of a
+//! thread is, is said in `specs/Paths.antt`; all paths are followed in one pass, since jumps go
+//! forwards.
 //!
-//! [`deep::explore`] goes through the schedules that sleep sets leave by the plain step and by
-//! taking it back, up to a number of ends, and keeps what it saw of each assertion and of each loop.
-//! It shares no code with the search.
+//! [`deep::explore`] goes through the schedules that sleep sets leave, step by step and back, up to
+//! a number of ends, and keeps what they show of each assertion, each `signal` and each loop. It
+//! shares no code with the search.
 //!
-//! Places and words are put in by a crate above. What is in `specs/inner` only the proofs need.
+//! Places in the text and words are put in by a crate above. What is in `specs/inner` only the
+//! proofs need.
 #![tactic(auto)]
 
 pub mod deep;

@@ -1,4 +1,4 @@
-//! Paths through the code of a thread, found in one pass: jumps go forwards.
+//! Paths through the code of a thread, all followed in one pass: jumps go forwards.
 
 ghost use Rattle.std.specs.Prelude.{◌≡◌, ◌+◌, ◌<◌, ◌≤◌, ◌^◌, ◌↔◌, ℕ, Bool, IsTrue, IfOk, length};
 ghost use Rattle.guest_code.specs.Program.{JumpsWithin, skip_of};
@@ -9,28 +9,29 @@ use crate::uses::{expression_reads, sets};
 use guest_code::program::Instruction;
 use std::alloc::{AllocError, Global};
 
-/// What is followed along a path.
+/// A property that is watched along a path through the code of a thread.
 #[derive(Clone, Copy, Debug, PartialEq, Eq)]
 pub enum Watch {
-    /// Nothing but where the path leads.
+    /// No property: only where the path leads.
     Nothing,
     /// Whether the thread owns the mutex of this number.
     Owns(usize),
-    /// Whether the local of this number got a value, as long as the thread neither looks at it nor
-    /// acts.
-    Unseen(usize),
+    /// Whether the local of this number has got a value on the path. A path ends where the thread
+    /// tests such a value, or does something that other threads may see.
+    Untested(usize),
 }
 
-/// How a thread may be at an instruction.
+/// Whether some path leads to an instruction so that the watched property holds there, and whether
+/// some path leads there so that it doesn't.
 #[derive(Clone, Copy, Debug, PartialEq, Eq)]
 pub struct Mark {
-    /// Some path leads to the instruction, after which what is watched holds.
+    /// Some path leads to the instruction, and the watched property holds after the path.
     pub may_hold: bool,
-    /// Some path leads to the instruction, after which what is watched doesn't hold.
+    /// Some path leads to the instruction, and the watched property doesn't hold after the path.
     pub may_not_hold: bool,
 }
 
-/// How many of the next instructions an instruction may pass over.
+/// How many of the next instructions an instruction may jump over; 0 where it is no jump.
 pub fn skip_of(instruction: &Instruction) -> usize
     ensures { result ≡ skip_of instruction.now }
 {
@@ -40,14 +41,16 @@ pub fn skip_of(instruction: &Instruction) -> usize
     }
 }
 
-/// Whether an instruction tests: a thread may go on with the next instruction, or pass over some.
+/// Whether an instruction is a test, after which a thread may go on with the next instruction or
+/// jump over some.
 pub fn is_test(instruction: &Instruction) -> bool
     ensures { result ≡ is_test instruction.now }
 {
     matches!(instruction, Instruction::SkipIfZero(_, _))
 }
 
-// Whether a thread owns a mutex after an instruction; none where the thread doesn't get past it.
+// Whether a thread owns a mutex after an instruction, where `owned` says whether it did before.
+// `None` for a `lock` of the mutex that it owns: the thread doesn't get past that.
 fn owned_after(mutex: usize, instruction: &Instruction, owned: bool) -> Option<bool>
     ensures { result ≡ owned_after mutex instruction.now owned }
 {
@@ -58,8 +61,9 @@ fn owned_after(mutex: usize, instruction: &Instruction, owned: bool) -> Option<b
     }
 }
 
-// Whether an instruction does something to what other threads see, whatever it finds.
-fn acts(instruction: &Instruction) -> bool
+// Whether an instruction is sure to do something that other threads may see. An `unlock` doesn't
+// count, nor a `cas`, which writes only where it hits.
+fn affects_others(instruction: &Instruction) -> bool
     ensures { result ≡ acts instruction.now }
 {
     matches!(
@@ -75,31 +79,36 @@ fn acts(instruction: &Instruction) -> bool
     )
 }
 
-// Whether a local got a value by the end of an instruction; none where that looks at the value, or acts.
-fn unseen_after(local: usize, instruction: &Instruction, set: bool) -> Option<bool>
+// Whether a local has got a value, and it wasn't tested yet, after an instruction; `set` says
+// whether it had before. `None` where the path isn't followed any further: the instruction tests
+// that value, is a `cas`, which tests by itself, or is sure to do something that other threads may
+// see.
+fn is_set_after(local: usize, instruction: &Instruction, set: bool) -> Option<bool>
     ensures { result ≡ unseen_after local instruction.now set }
 {
     match instruction {
         Instruction::SkipIfZero(test, _) if set && expression_reads(local, test) => None,
         Instruction::SkipIfZero(_, _) => Some(set),
         Instruction::Cas { .. } => None,
-        _ if acts(instruction) => None,
+        _ if affects_others(instruction) => None,
         _ => Some(set || sets(local, instruction)),
     }
 }
 
-// Whether what is watched holds after an instruction; none where no path that is followed goes on.
-fn after(watch: Watch, instruction: &Instruction, holds: bool) -> Option<bool>
+// Whether the watched property holds after an instruction, where `holds` says whether it did
+// before. `None` where the path isn't followed any further.
+fn holds_after(watch: Watch, instruction: &Instruction, holds: bool) -> Option<bool>
     ensures { result ≡ after watch instruction.now holds }
 {
     match watch {
         Watch::Nothing => Some(holds),
         Watch::Owns(mutex) => owned_after(mutex, instruction, holds),
-        Watch::Unseen(local) => unseen_after(local, instruction, holds),
+        Watch::Untested(local) => is_set_after(local, instruction, holds),
     }
 }
 
-// Marks an instruction, as one where what is watched holds or doesn't.
+// Marks that some path leads to the instruction of number `at`, and that the watched property holds
+// there, or doesn't, as `holds` says.
 fn add_mark(marks: &mut [Mark], at: usize, holds: bool)
     requires { at < length marks.old }
     ensures { AddsOne marks.old marks.new at holds }
@@ -111,7 +120,8 @@ fn add_mark(marks: &mut [Mark], at: usize, holds: bool)
     }
 }
 
-// Marks what may be next after an instruction, where what is watched holds or not (`next`), if any.
+// Marks the instructions that may be next after the one of number `at`. The watched property holds
+// there or not, as `next` says; where `next` is `None`, nothing is marked.
 fn add_next(marks: &mut [Mark], at: usize, instruction: &Instruction, next: Option<bool>)
     requires { at + 1 + skip_of instruction.now < length marks.old }
     ensures { AddsNext marks.old marks.new at instruction.now next }
@@ -125,22 +135,34 @@ fn add_next(marks: &mut [Mark], at: usize, instruction: &Instruction, next: Opti
     }
 }
 
-// Marks what may be next after an instruction, for each way in which the instruction is marked.
+// Marks the instructions that may be next after the one of number `at`, in each way in which that
+// one is marked itself: where the watched property holds, and where it doesn't.
 fn add_all_next(marks: &mut [Mark], at: usize, instruction: &Instruction, watch: Watch)
     requires { at + 1 + skip_of instruction.now < length marks.old }
     ensures { AddsAll marks.old marks.new at instruction.now watch }
 {
     let here = marks[at];
     if here.may_hold {
-        add_next(marks, at, instruction, after(watch, instruction, true));
+        add_next(
+            marks,
+            at,
+            instruction,
+            holds_after(watch, instruction, true),
+        );
     }
     if here.may_not_hold {
-        add_next(marks, at, instruction, after(watch, instruction, false));
+        add_next(
+            marks,
+            at,
+            instruction,
+            holds_after(watch, instruction, false),
+        );
     }
 }
 
-// Marks how a thread may come to each instruction, and to the end, from the instruction `start`,
-// before which what is watched holds or doesn't; at the call nothing is marked.
+// Marks, for each instruction of a code and for its end, whether some path from the instruction of
+// number `start` leads there so that the watched property holds, and whether some does so that it
+// doesn't. `holds` says whether it holds before `start`. At the call nothing is marked.
 fn mark_paths(marks: &mut [Mark], code: &[Instruction], watch: Watch, start: usize, holds: bool)
     requires none { (j : ℕ) (b : Bool) → ¬ Marked marks.old j b }
     requires length { length marks.old ≡ length code.now + 1 }
@@ -154,9 +176,14 @@ fn mark_paths(marks: &mut [Mark], code: &[Instruction], watch: Watch, start: usi
     }
 }
 
-/// How a thread may come to each instruction, and to the end, from the instruction `start`, before
-/// which what is watched holds or doesn't.
-pub fn paths(
+/// For each instruction of a code, and last for its end, whether some path from the instruction of
+/// number `start` leads there so that the watched property holds, and whether some does so that it
+/// doesn't. `holds` says whether it holds before `start`.
+///
+/// # Errors
+///
+/// `AllocError` where memory runs out.
+pub fn path_marks(
     alloc: Global,
     code: &[Instruction],
     watch: Watch,
@@ -178,20 +205,22 @@ pub fn paths(
     Ok(marks)
 }
 
-/// Whether by the marks some path leads to an instruction that acts, or to the end.
-pub fn comes_to_act(marks: &[Mark], code: &[Instruction]) -> bool
+/// Whether some path, by these marks, leads to an instruction that is sure to do something that
+/// other threads may see, or to the end of the code. The marks are those of the code's
+/// instructions, in order, and last of its end.
+pub fn reaches_effect_or_end(marks: &[Mark], code: &[Instruction]) -> bool
     requires { length marks.now ≡ length code.now + 1 }
     ensures { IsTrue result ↔ (j : ℕ) × (b : Bool) × Marked marks.now j b × ActsAt code.now j }
 {
     for (at, instruction) in code.iter().enumerate() {
-        if acts(instruction) && (marks[at].may_hold || marks[at].may_not_hold) {
+        if affects_others(instruction) && (marks[at].may_hold || marks[at].may_not_hold) {
             return true;
         }
     }
     marks[code.len()].may_hold || marks[code.len()].may_not_hold
 }
 
-/// Whether some jump before an instruction may pass the instruction over.
+/// Whether some jump before the instruction of number `at` may jump over that instruction.
 pub fn is_passed_over(code: &[Instruction], at: usize) -> bool
     requires jumps { JumpsWithin code.now }
     requires at { at < length code.now }

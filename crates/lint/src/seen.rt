@@ -1,4 +1,4 @@
-//! What schedules show of a program.
+//! What the schedules that a walk has gone through show of a program.
 
 ghost use Rattle.std.specs.Prelude.{◌<◌};
 ghost use Rattle.guest_code.specs.Program.{Program, IsValidCode, IsValidExpression};
@@ -6,33 +6,35 @@ ghost use Rattle.guest_code.specs.Program.{Program, IsValidCode, IsValidExpressi
 use crate::spin::Spin;
 use guest_code::limits::LOCALS;
 use guest_code::program::{Expression, Instruction, Program};
-use semantics::{Turn, expression_at, next_local, operand_at};
+use semantics::{Turn, expression_value, next_local, operand_value};
 use std::alloc::{AllocError, Global};
 
-/// The values with which an assertion was carried out, over all schedules that were gone through.
+/// The values with which an assertion was carried out, over all schedules gone through so far.
 #[derive(Clone, Copy, Debug, PartialEq, Eq)]
 pub enum ValuesSeen {
-    /// No schedule came to the assertion.
+    /// The assertion wasn't carried out.
     Unseen,
     /// Each time the two sides had these values.
     Same(i64, i64),
-    /// The sides had different values in different schedules or turns.
+    /// The sides had different values in different schedules, or at different times in one.
     Varied,
 }
 
-/// What was seen of an instruction of a thread, over all schedules that were gone through.
+/// What was seen of an instruction of a thread, over all schedules gone through so far.
 #[derive(Drop)]
 pub struct InstructionSeen {
     /// Of an assertion: the values of its two sides.
     pub values: ValuesSeen,
     /// Of an assertion: whether it held in some schedule.
     pub has_held: bool,
-    /// Of a `signal`: the steps to the first time that two threads or more waited for it.
+    /// Of a `signal`: the threads of the steps up to the first time that two threads or more waited
+    /// for its condition; `None` where that wasn't seen.
     pub signal_to_many: Option<Vec<u8>>,
 }
 
-/// What was seen of each instruction of each thread, by their numbers, and for each loop the steps to
-/// the first time that the loop ran out of turns.
+/// What was seen of each instruction of each thread, by their numbers, and for each loop the
+/// threads of the steps up to the first time that the loop ended after its last turn, without a
+/// `leave`.
 #[derive(Drop)]
 pub struct Seen {
     alloc: Global,
@@ -40,7 +42,8 @@ pub struct Seen {
     pub ran_out: Vec<Option<Vec<u8>>>,
 }
 
-/// What was seen of an assertion so far, and once more, with sides of the values `left` and `right`.
+/// The values seen of an assertion, those before, `values`, and those of one more time that it is
+/// carried out: `left` and `right`, of its two sides.
 pub fn values_with(values: ValuesSeen, left: i64, right: i64) -> ValuesSeen {
     match values {
         ValuesSeen::Unseen => ValuesSeen::Same(left, right),
@@ -49,29 +52,30 @@ pub fn values_with(values: ValuesSeen, left: i64, right: i64) -> ValuesSeen {
     }
 }
 
-// The values of the two sides of an expression; of a single value, that value twice.
+// The values of the two sides of an expression, with these locals; of a single operand its value
+// twice.
 fn side_values(locals: &[i64; LOCALS], expression: &Expression) -> (i64, i64)
     requires { IsValidExpression expression.now }
 {
     match expression {
-        Expression::Single(a) => (operand_at(locals, *a), operand_at(locals, *a)),
-        Expression::Both(a, _, b) => (operand_at(locals, *a), operand_at(locals, *b)),
+        Expression::Single(a) => (operand_value(locals, *a), operand_value(locals, *a)),
+        Expression::Both(a, _, b) => (operand_value(locals, *a), operand_value(locals, *b)),
     }
 }
 
-/// A step that a schedule has come to, or the start of a thread, for what is seen there.
+/// A step that a schedule has come to, or the start of a thread: where something is seen.
 #[derive(Clone, Copy)]
 pub struct SeenStep<'a> {
     pub spins: &'a [Spin],
-    /// The threads whose steps were taken, this one's last; none at the start.
+    /// The threads of the steps so far, in order, with that of this step last; none at the start.
     pub path: &'a [u8],
     pub thread: u8,
     /// The code of the thread.
     pub code: &'a [Instruction],
 }
 
-// What was seen of a number of instructions before any schedule: nothing.
-fn unseen_instructions(alloc: Global, count: usize) -> Result<Vec<InstructionSeen>, AllocError> {
+// What was seen of `count` instructions before any schedule: nothing.
+fn nothing_seen(alloc: Global, count: usize) -> Result<Vec<InstructionSeen>, AllocError> {
     let mut instructions = Vec::new(alloc);
     for _ in 0..count {
         instructions.push(InstructionSeen {
@@ -84,11 +88,15 @@ fn unseen_instructions(alloc: Global, count: usize) -> Result<Vec<InstructionSee
 }
 
 impl Seen {
-    /// What was seen of a program and of its loops (`spins`) before any schedule: nothing.
+    /// What was seen of a program before any schedule: nothing. `spins` is the number of its loops.
+    ///
+    /// # Errors
+    ///
+    /// `AllocError` where memory runs out.
     pub fn new(alloc: Global, program: &Program, spins: usize) -> Result<Seen, AllocError> {
         let mut instructions = Vec::new(alloc);
         for thread in 0..program.threads() {
-            instructions.push(unseen_instructions(alloc, program.code(thread).len())?)?;
+            instructions.push(nothing_seen(alloc, program.code(thread).len())?)?;
         }
         let mut ran_out = Vec::new(alloc);
         for _ in 0..spins {
@@ -101,13 +109,15 @@ impl Seen {
         })
     }
 
-    // Sees an instruction that is carried out with these locals: of an assertion, its values.
-    fn see_instruction(&mut self, step: SeenStep<'_>, at: usize, locals: &[i64; LOCALS])
+    // Notes what is seen where a thread carries out the instruction of number `at` with these
+    // locals: for an assertion, the values of its sides and whether it holds; for any other one
+    // nothing.
+    fn note_instruction(&mut self, step: SeenStep<'_>, at: usize, locals: &[i64; LOCALS])
         requires { (p : Program) × IsValidCode p step.code.now }
     {
         if let Some(Instruction::Assert(test)) = step.code.get(at) {
             let (left, right) = side_values(locals, test);
-            let holds = expression_at(locals, test) != 0;
+            let holds = expression_value(locals, test) != 0;
             if let Some(instruction) = self.instruction(step.thread, at) {
                 instruction.values = values_with(instruction.values, left, right);
                 instruction.has_held = instruction.has_held || holds;
@@ -115,7 +125,7 @@ impl Seen {
         }
     }
 
-    /// What was seen of the instructions of a thread; nothing where there is no thread of the number.
+    /// What was seen of each instruction of a thread; empty where the program has no such thread.
     pub fn instructions_of(&self, thread: u8) -> &[InstructionSeen] {
         match self.instructions.get(thread as usize) {
             Some(instructions) => instructions,
@@ -123,13 +133,19 @@ impl Seen {
         }
     }
 
-    // What was seen of an instruction of a thread, if there is one.
+    // What was seen of an instruction of a thread, to be changed; `None` where there is no such
+    // thread or instruction.
     fn instruction(&mut self, thread: u8, at: usize) -> Option<&mut InstructionSeen> {
         self.instructions.get_mut(thread as usize)?.get_mut(at)
     }
 
-    /// Sees that a `signal` is to be carried out for which several threads wait.
-    pub fn see_signal_to_many(&mut self, step: SeenStep<'_>, at: usize) -> Result<(), AllocError> {
+    /// Notes that a step is to carry out a `signal`, the instruction of number `at`, while several
+    /// threads wait for its condition. Only the first such step is kept.
+    ///
+    /// # Errors
+    ///
+    /// `AllocError` where memory runs out.
+    pub fn note_signal_to_many(&mut self, step: SeenStep<'_>, at: usize) -> Result<(), AllocError> {
         let alloc = self.alloc;
         if let Some(instruction) = self.instruction(step.thread, at) {
             if instruction.signal_to_many.is_none() {
@@ -139,8 +155,9 @@ impl Seen {
         Ok(())
     }
 
-    // Sees a thread go from one instruction to another one, by which a loop may run out of turns.
-    fn see_move(&mut self, step: SeenStep<'_>, from: usize, to: usize) -> Result<(), AllocError> {
+    // Notes that a thread goes from one instruction to another, where that ends a loop after its
+    // last turn, without a `leave`. Only the first such step of each loop is kept.
+    fn note_move(&mut self, step: SeenStep<'_>, from: usize, to: usize) -> Result<(), AllocError> {
         for (i, spin) in step.spins.iter().enumerate() {
             if spin.runs_out(step.thread, from, to) {
                 if let Some(ran_out) = self.ran_out.get_mut(i) {
@@ -153,8 +170,13 @@ impl Seen {
         Ok(())
     }
 
-    /// Sees what a thread carries out by itself from an instruction on, with these locals.
-    pub fn see_run(
+    /// Notes what is seen in a local run from the instruction of number `start` on, with these
+    /// locals.
+    ///
+    /// # Errors
+    ///
+    /// `AllocError` where memory runs out.
+    pub fn note_run(
         &mut self,
         step: SeenStep<'_>,
         start: usize,
@@ -164,18 +186,23 @@ impl Seen {
     {
         let mut at = start;
         for _ in 0..step.code.len() {
-            self.see_instruction(step, at, &locals);
+            self.note_instruction(step, at, &locals);
             let Turn::Runs(next) = next_local(step.code, &mut locals, at) else {
                 return Ok(());
             };
-            self.see_move(step, at, next)?;
+            self.note_move(step, at, next)?;
             at = next;
         }
         Ok(())
     }
 
-    /// Sees what a thread carries out after its step at an instruction, which leaves it these locals.
-    pub fn see_step(
+    /// Notes what is seen from the instruction of number `at`, a thread's step, on: in going to the
+    /// next instruction, and in the local run from there, with the locals that the step leaves.
+    ///
+    /// # Errors
+    ///
+    /// `AllocError` where memory runs out.
+    pub fn note_step(
         &mut self,
         step: SeenStep<'_>,
         at: usize,
@@ -183,7 +210,7 @@ impl Seen {
     ) -> Result<(), AllocError>
         requires { (p : Program) × IsValidCode p step.code.now }
     {
-        self.see_move(step, at, at.saturating_add(1))?;
-        self.see_run(step, at.saturating_add(1), locals)
+        self.note_move(step, at, at.saturating_add(1))?;
+        self.note_run(step, at.saturating_add(1), locals)
     }
 }

@@ -1,22 +1,24 @@
-//! The loops that a `leave` may end.
+//! Loops that a `leave` may end.
 
 use guest_syntax::place::Pos;
 
-/// A copy of a `repeat` that has a `leave`.
+/// A loop that a `leave` may end, as a spin loop: one copy of a `repeat` in the flat code.
 #[derive(Drop)]
 pub struct Spin {
     /// The thread that has the loop.
     pub thread: u8,
     /// Where the `repeat` is.
     pub at: Pos,
-    /// The number of the instruction after the last turn.
+    /// The number of the first instruction after the loop's last turn.
     pub exit: usize,
-    /// For each instruction of the thread, whether it is in the loop and none of its own `leave`s.
+    /// For each instruction of the thread, whether it is in the loop, and isn't a `leave` of this
+    /// loop.
     pub inside: Vec<bool>,
 }
 
 impl Spin {
-    /// Whether the loop runs out of turns where a thread goes from one instruction to another one.
+    /// Whether the turns of the loop have run out where a thread goes from instruction `from` to
+    /// instruction `to`: whether that leads out of the loop, and isn't by its `leave`.
     pub fn runs_out(&self, thread: u8, from: usize, to: usize) -> bool {
         self.thread == thread && self.exit == to && self.inside.get(from).copied().unwrap_or(false)
     }

@@ -1,4 +1,5 @@
-//! What an instruction does with locals and with objects.
+//! What an instruction does with locals and with objects: a variable, mutex, condition or
+//! semaphore.
 
 ghost use Rattle.std.specs.Prelude.{◌≡◌};
 ghost use Rattle.std.specs.List.{list_any};
@@ -6,15 +7,15 @@ ghost use Rattle.lint.specs.Uses.{value_reads, expression_reads, reads, is, loca
 
 use guest_code::program::{Expression, Instruction, Value};
 
-/// A use of a local or an object, which goes by its number.
+/// A way in which an instruction uses a local or an object, which is given by its number.
 #[derive(Clone, Copy, Debug, PartialEq, Eq)]
 pub enum Use {
     /// A local is read.
     Reads,
     /// A local gets a value.
     Sets,
-    /// A local gets a value, and nothing else is done.
-    Fills,
+    /// A local gets a value, and nothing else is done that another thread may see.
+    OnlySets,
     /// A variable is read.
     Loads,
     /// A variable is written.
@@ -29,15 +30,15 @@ pub enum Use {
     Waits,
     /// A condition is waited for with another mutex than the one of this number.
     WaitsWithout(usize),
-    /// Who waits for a condition is woken.
+    /// A condition is signalled, to one thread that waits for it or to all.
     Signals,
-    /// A semaphore is lowered.
+    /// A semaphore is acquired: its count is lowered.
     Acquires,
-    /// A semaphore is raised.
+    /// A semaphore is released: its count is raised.
     Releases,
 }
 
-// Whether a value reads a local.
+// Whether a value, as an operand, is this local.
 fn value_reads(local: usize, value: Value) -> bool
     ensures { result ≡ value_reads local value }
 {
@@ -76,7 +77,7 @@ pub fn reads(local: usize, instruction: &Instruction) -> bool
     }
 }
 
-/// The local that an instruction gives a value.
+/// The local to which an instruction gives a value; `None` where it sets none.
 pub fn local_set(instruction: &Instruction) -> Option<usize>
     ensures { result ≡ local_set instruction.now }
 {
@@ -89,7 +90,7 @@ pub fn local_set(instruction: &Instruction) -> Option<usize>
     }
 }
 
-/// The variable that an instruction reads.
+/// The variable that an instruction reads; `None` where it reads none.
 pub fn variable_read(instruction: &Instruction) -> Option<usize>
     ensures { result ≡ variable_read instruction.now }
 {
@@ -101,7 +102,7 @@ pub fn variable_read(instruction: &Instruction) -> Option<usize>
     }
 }
 
-/// The variable that an instruction writes; a `cas` does so only where it hits.
+/// The variable that an instruction writes, a `cas` where it hits; `None` where it writes none.
 pub fn variable_written(instruction: &Instruction) -> Option<usize>
     ensures { result ≡ variable_written instruction.now }
 {
@@ -113,14 +114,14 @@ pub fn variable_written(instruction: &Instruction) -> Option<usize>
     }
 }
 
-/// The variable that an instruction reads or writes.
+/// The variable that an instruction reads or writes; `None` where it does neither.
 pub fn variable_used(instruction: &Instruction) -> Option<usize>
     ensures { result ≡ variable_used instruction.now }
 {
     variable_read(instruction).or(variable_written(instruction))
 }
 
-/// Whether a number that may be missing is there, and is this number.
+/// Whether an option holds this number; false for `None`.
 pub fn is_in_option(number: usize, there: Option<usize>) -> bool
     ensures { result ≡ is number there }
 {
@@ -137,8 +138,9 @@ pub fn sets(local: usize, instruction: &Instruction) -> bool
     is_in_option(local, local_set(instruction))
 }
 
-// Whether an instruction gives a local a value and does nothing else.
-fn fills(wanted: usize, instruction: &Instruction) -> bool
+// Whether an instruction gives the local `wanted` a value and does nothing else: a `load` or a
+// `set`.
+fn only_sets(wanted: usize, instruction: &Instruction) -> bool
     ensures { result ≡ fills wanted instruction.now }
 {
     match instruction {
@@ -147,7 +149,7 @@ fn fills(wanted: usize, instruction: &Instruction) -> bool
     }
 }
 
-// Whether an instruction names a mutex.
+// Whether an instruction names the mutex `wanted`.
 fn names_mutex(wanted: usize, instruction: &Instruction) -> bool
     ensures { result ≡ names_mutex wanted instruction.now }
 {
@@ -158,7 +160,7 @@ fn names_mutex(wanted: usize, instruction: &Instruction) -> bool
     }
 }
 
-// Whether an instruction names a condition.
+// Whether an instruction names the condition `wanted`.
 fn names_condition(wanted: usize, instruction: &Instruction) -> bool
     ensures { result ≡ names_condition wanted instruction.now }
 {
@@ -169,7 +171,7 @@ fn names_condition(wanted: usize, instruction: &Instruction) -> bool
     }
 }
 
-// Whether an instruction names a semaphore.
+// Whether an instruction names the semaphore `wanted`.
 fn names_semaphore(wanted: usize, instruction: &Instruction) -> bool
     ensures { result ≡ names_semaphore wanted instruction.now }
 {
@@ -179,7 +181,7 @@ fn names_semaphore(wanted: usize, instruction: &Instruction) -> bool
     }
 }
 
-// Whether an instruction waits for a condition.
+// Whether an instruction waits for the condition `wanted`.
 fn waits(wanted: usize, instruction: &Instruction) -> bool
     ensures { result ≡ waits wanted instruction.now }
 {
@@ -189,8 +191,8 @@ fn waits(wanted: usize, instruction: &Instruction) -> bool
     }
 }
 
-// Whether an instruction waits for a condition with another mutex than `other`.
-fn waits_without(other: usize, wanted: usize, instruction: &Instruction) -> bool
+// Whether an instruction waits for the condition `wanted` with another mutex than `other`.
+fn waits_with_other_mutex(other: usize, wanted: usize, instruction: &Instruction) -> bool
     ensures { result ≡ waits_without other wanted instruction.now }
 {
     match instruction {
@@ -199,7 +201,7 @@ fn waits_without(other: usize, wanted: usize, instruction: &Instruction) -> bool
     }
 }
 
-// Whether an instruction wakes who waits for a condition.
+// Whether an instruction wakes threads that wait for the condition `wanted`, one or all.
 fn signals(wanted: usize, instruction: &Instruction) -> bool
     ensures { result ≡ signals wanted instruction.now }
 {
@@ -209,7 +211,7 @@ fn signals(wanted: usize, instruction: &Instruction) -> bool
     }
 }
 
-// Whether an instruction lowers a semaphore.
+// Whether an instruction acquires the semaphore `wanted`.
 fn acquires(wanted: usize, instruction: &Instruction) -> bool
     ensures { result ≡ acquires wanted instruction.now }
 {
@@ -219,7 +221,7 @@ fn acquires(wanted: usize, instruction: &Instruction) -> bool
     }
 }
 
-// Whether an instruction raises a semaphore.
+// Whether an instruction releases the semaphore `wanted`.
 fn releases(wanted: usize, instruction: &Instruction) -> bool
     ensures { result ≡ releases wanted instruction.now }
 {
@@ -237,14 +239,14 @@ impl Use {
         match self {
             Use::Reads => reads(number, instruction),
             Use::Sets => sets(number, instruction),
-            Use::Fills => fills(number, instruction),
+            Use::OnlySets => only_sets(number, instruction),
             Use::Loads => is_in_option(number, variable_read(instruction)),
             Use::Stores => is_in_option(number, variable_written(instruction)),
             Use::OfMutex => names_mutex(number, instruction),
             Use::OfCondition => names_condition(number, instruction),
             Use::OfSemaphore => names_semaphore(number, instruction),
             Use::Waits => waits(number, instruction),
-            Use::WaitsWithout(mutex) => waits_without(mutex, number, instruction),
+            Use::WaitsWithout(mutex) => waits_with_other_mutex(mutex, number, instruction),
             Use::Signals => signals(number, instruction),
             Use::Acquires => acquires(number, instruction),
             Use::Releases => releases(number, instruction),
@@ -260,8 +262,8 @@ impl Use {
     }
 }
 
-/// Whether an instruction asserts numbers alone.
-pub fn is_constant(instruction: &Instruction) -> bool
+/// Whether an instruction is an assertion of numbers alone, without a local.
+pub fn is_constant_assert(instruction: &Instruction) -> bool
     ensures { result ≡ is_constant instruction.now }
 {
     match instruction {
@@ -271,8 +273,8 @@ pub fn is_constant(instruction: &Instruction) -> bool
     }
 }
 
-/// Whether an instruction is `assert 0;`, which says that no run is to come there.
-pub fn forbids(instruction: &Instruction) -> bool
+/// Whether an instruction is `assert 0;`, by which a guest says that no run is to come there.
+pub fn is_assert_zero(instruction: &Instruction) -> bool
     ensures { result ≡ forbids instruction.now }
 {
     match instruction {

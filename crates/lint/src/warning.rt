@@ -1,17 +1,18 @@
-//! Warnings, and when what they warn of is so.
+//! The kinds of warnings, and whether what one warns of holds of a local, an object or an
+//! instruction.
 
 ghost use Rattle.std.specs.Prelude.{◌≡◌, ◌<◌, ◌↔◌, IsTrue, IfOk, length, ◌^◌, ◌≤◌};
 ghost use Rattle.guest_code.specs.Program.{code_of, JumpsWithin};
 ghost use Rattle.lint.specs.Paths.{IsReached};
 ghost use Rattle.lint.specs.Warnings.{UsesIn, UsesAnywhere, IsSo, MayKeep, MayLack, LocksAgain, IsUnseen, WaitNotLookedAtAgain, WaitsElsewhere, IsConstantAt, IsOfThread, count_of};
 
-use crate::paths::{Watch, comes_to_act, is_passed_over, paths};
-use crate::uses::{Use, forbids, is_constant};
+use crate::paths::{Watch, is_passed_over, path_marks, reaches_effect_or_end};
+use crate::uses::{Use, is_assert_zero, is_constant_assert};
 use guest_code::limits::{INSTRUCTIONS, LOCALS};
 use guest_code::program::{Instruction, Program};
 use std::alloc::{AllocError, Global};
 
-/// What is warned of, with the number of the thread where that matters.
+/// What is warned of, with the number of the thread where it is of one thread.
 #[derive(Clone, Copy, Debug, PartialEq, Eq)]
 pub enum WarningKind {
     /// A local is read, and no statement of its thread gives it a value.
@@ -38,15 +39,17 @@ pub enum WarningKind {
     NeverReleased,
     /// An assertion has no local, and isn't an `assert 0;` that may be passed over.
     Constant(u8),
-    /// No path through the thread leads to an instruction.
+    /// No path through the thread's code leads to an instruction.
     Unreached(u8),
-    /// An instruction locks a mutex that on some path is then still owned at the end.
+    /// An instruction locks a mutex that on some path the thread still owns at its end.
     MayKeep(u8),
-    /// An instruction gives a mutex back that on some path isn't owned there.
+    /// An instruction, an `unlock` or a `wait`, gives up a mutex that on some path the thread
+    /// doesn't own there.
     MayLack(u8),
-    /// An instruction locks a mutex that on each path to there is owned already.
+    /// An instruction locks a mutex that on each path to there the thread owns already.
     LocksAgain(u8),
-    /// On some path no value is loaded and looked at between a `wait` and what is done next.
+    /// After a `wait` no local is sure to get a value and then be tested, before the thread ends or
+    /// does something that other threads may see.
     WaitNotLookedAtAgain(u8),
     /// An instruction waits for a condition that another one waits for with another mutex.
     WaitsElsewhere(u8),
@@ -59,7 +62,7 @@ pub struct Warning {
     pub number: usize,
 }
 
-// Whether some instruction of a thread makes a use of the local or the object of this number.
+// Whether some instruction of a thread makes this use of the local or the object of a number.
 fn is_used_in(program: &Program, thread: u8, use_: Use, number: usize) -> bool
     requires { thread < length program.now.threads }
     ensures { IsTrue result ↔ UsesIn program.now thread use_ number }
@@ -67,7 +70,7 @@ fn is_used_in(program: &Program, thread: u8, use_: Use, number: usize) -> bool
     use_.is_made_in(number, program.code(thread))
 }
 
-// Whether some instruction of the program makes a use of the object of this number.
+// Whether some instruction of the program makes this use of the object of a number.
 fn is_used(program: &Program, use_: Use, number: usize) -> bool
     ensures { IsTrue result ↔ UsesAnywhere program.now use_ number }
 {
@@ -79,7 +82,7 @@ fn is_used(program: &Program, use_: Use, number: usize) -> bool
     false
 }
 
-// The code of a thread, of which the clauses tell what the limits of a program promise.
+// The code of a thread. The clauses add that its jumps stay within it, and how long it is at most.
 fn code_of(program: &Program, thread: u8) -> &[Instruction]
     requires { thread < length program.now.threads }
     ensures code { result.now ≡ code_of program.now thread }
@@ -90,19 +93,20 @@ fn code_of(program: &Program, thread: u8) -> &[Instruction]
     program.code(thread)
 }
 
-// Whether some path from the start of a code leads to an instruction.
+// Whether some path from the start of a code leads to the instruction of number `at`.
 fn is_reached(alloc: Global, code: &[Instruction], at: usize) -> Result<bool, AllocError>
     requires jumps { JumpsWithin code.now }
     requires short { length code.now < 2 ^ 32 }
     requires at { at < length code.now }
     ensures { IfOk result (λ b. IsTrue b ↔ IsReached code.now at) }
 {
-    let marks = paths(alloc, code, Watch::Nothing, 0, false)?;
+    let marks = path_marks(alloc, code, Watch::Nothing, 0, false)?;
     Ok(marks[at].may_hold || marks[at].may_not_hold)
 }
 
-// Whether an instruction locks a mutex that on some path is then still owned at the end.
-fn may_keep(alloc: Global, code: &[Instruction], at: usize) -> Result<bool, AllocError>
+// Whether the instruction of number `at` is a `lock` of a mutex that the thread may not own before
+// it, and on some path after it still owns at the end of its code.
+fn may_stay_locked(alloc: Global, code: &[Instruction], at: usize) -> Result<bool, AllocError>
     requires jumps { JumpsWithin code.now }
     requires short { length code.now < 2 ^ 32 }
     requires at { at < length code.now }
@@ -111,13 +115,14 @@ fn may_keep(alloc: Global, code: &[Instruction], at: usize) -> Result<bool, Allo
     let Instruction::Lock(mutex) = code[at] else {
         return Ok(false);
     };
-    let before = paths(alloc, code, Watch::Owns(mutex), 0, false)?;
-    let marks = paths(alloc, code, Watch::Owns(mutex), at + 1, true)?;
+    let before = path_marks(alloc, code, Watch::Owns(mutex), 0, false)?;
+    let marks = path_marks(alloc, code, Watch::Owns(mutex), at + 1, true)?;
     Ok(before[at].may_not_hold && marks[code.len()].may_hold)
 }
 
-// Whether an instruction gives a mutex back that on some path isn't owned there.
-fn may_lack(alloc: Global, code: &[Instruction], at: usize) -> Result<bool, AllocError>
+// Whether the instruction of number `at`, an `unlock` or a `wait`, gives up a mutex that on some
+// path the thread doesn't own there.
+fn may_unlock_unowned(alloc: Global, code: &[Instruction], at: usize) -> Result<bool, AllocError>
     requires jumps { JumpsWithin code.now }
     requires short { length code.now < 2 ^ 32 }
     requires at { at < length code.now }
@@ -128,11 +133,12 @@ fn may_lack(alloc: Global, code: &[Instruction], at: usize) -> Result<bool, Allo
         Instruction::Wait { mutex, .. } => mutex,
         _ => return Ok(false),
     };
-    let marks = paths(alloc, code, Watch::Owns(mutex), 0, false)?;
+    let marks = path_marks(alloc, code, Watch::Owns(mutex), 0, false)?;
     Ok(marks[at].may_not_hold)
 }
 
-// Whether an instruction locks a mutex that on each path to there is owned already.
+// Whether the instruction of number `at` is a `lock` of a mutex that the thread owns there already,
+// on some path and on each that leads there.
 fn locks_again(alloc: Global, code: &[Instruction], at: usize) -> Result<bool, AllocError>
     requires jumps { JumpsWithin code.now }
     requires short { length code.now < 2 ^ 32 }
@@ -142,12 +148,15 @@ fn locks_again(alloc: Global, code: &[Instruction], at: usize) -> Result<bool, A
     let Instruction::Lock(mutex) = code[at] else {
         return Ok(false);
     };
-    let marks = paths(alloc, code, Watch::Owns(mutex), 0, false)?;
+    let marks = path_marks(alloc, code, Watch::Owns(mutex), 0, false)?;
     Ok(marks[at].may_hold && !marks[at].may_not_hold)
 }
 
-// Whether after an instruction some path acts or ends with no test of a new value of a local before.
-fn is_unseen(
+// Whether some path from behind the instruction of number `at` leads to the end, or to an
+// instruction that is sure to do something that other threads may see, so that the local isn't
+// first given a value on it and then tested. Paths don't go on behind a `cas`, which tests by
+// itself.
+fn may_go_untested(
     alloc: Global,
     code: &[Instruction],
     local: usize,
@@ -158,16 +167,14 @@ fn is_unseen(
     requires at { at < length code.now }
     ensures { IfOk result (λ b. IsTrue b ↔ IsUnseen code.now local at) }
 {
-    let marks = paths(alloc, code, Watch::Unseen(local), at + 1, false)?;
-    Ok(comes_to_act(&marks, code))
+    let marks = path_marks(alloc, code, Watch::Untested(local), at + 1, false)?;
+    Ok(reaches_effect_or_end(&marks, code))
 }
 
-// Whether an instruction waits, and no local is sure to be looked at again before what is done next.
-fn is_not_looked_at_again(
-    alloc: Global,
-    code: &[Instruction],
-    at: usize,
-) -> Result<bool, AllocError>
+// Whether the instruction of number `at` is a `wait` after which the thread may go on without a new
+// look at what it waited for: after which, for each local, some path on which the local isn't given
+// a value and then tested leads to the end, or to what other threads may see.
+fn waits_without_recheck(alloc: Global, code: &[Instruction], at: usize) -> Result<bool, AllocError>
     requires jumps { JumpsWithin code.now }
     requires short { length code.now < 2 ^ 32 }
     requires at { at < length code.now }
@@ -177,15 +184,16 @@ fn is_not_looked_at_again(
         return Ok(false);
     }
     for local in 0..LOCALS {
-        if !is_unseen(alloc, code, local, at)? {
+        if !may_go_untested(alloc, code, local, at)? {
             return Ok(false);
         }
     }
     Ok(true)
 }
 
-// Whether an instruction waits for a condition that is waited for with another mutex too.
-fn waits_elsewhere(program: &Program, instruction: &Instruction) -> bool
+// Whether an instruction is a `wait` for a condition for which some instruction of the program
+// waits with another mutex.
+fn waits_with_mixed_mutexes(program: &Program, instruction: &Instruction) -> bool
     ensures { IsTrue result ↔ WaitsElsewhere program.now instruction.now }
 {
     match instruction {
@@ -196,18 +204,19 @@ fn waits_elsewhere(program: &Program, instruction: &Instruction) -> bool
     }
 }
 
-// Whether an instruction asserts numbers alone, and isn't an `assert 0;` that may be passed over.
+// Whether the instruction of number `at` is an assertion of numbers alone, and not an `assert 0;`
+// that some jump may pass over.
 fn is_constant_at(code: &[Instruction], at: usize) -> bool
     requires jumps { JumpsWithin code.now }
     requires short { length code.now < 2 ^ 32 }
     requires at { at < length code.now }
     ensures { IsTrue result ↔ IsConstantAt code.now at }
 {
-    is_constant(&code[at]) && !(forbids(&code[at]) && is_passed_over(code, at))
+    is_constant_assert(&code[at]) && !(is_assert_zero(&code[at]) && is_passed_over(code, at))
 }
 
 impl WarningKind {
-    /// How many locals, objects or instructions, by the kind, there are to ask about.
+    /// How many locals, objects or instructions there are that a warning of this kind may be of.
     pub fn count(self, program: &Program) -> usize
         requires { IsOfThread program.now self }
         ensures { result ≡ count_of program.now self }
@@ -235,8 +244,17 @@ impl WarningKind {
         }
     }
 
-    /// Whether what the kind warns of is so of the local, object or instruction of a number.
-    pub fn is_so(self, alloc: Global, program: &Program, number: usize) -> Result<bool, AllocError>
+    /// Whether what this kind warns of holds of the local, object or instruction of a number.
+    ///
+    /// # Errors
+    ///
+    /// `AllocError` where memory runs out.
+    pub fn applies_to(
+        self,
+        alloc: Global,
+        program: &Program,
+        number: usize,
+    ) -> Result<bool, AllocError>
         requires thread { IsOfThread program.now self }
         requires number { number < count_of program.now self }
         ensures { IfOk result (λ b. IsTrue b ↔ IsSo program.now self number) }
@@ -247,7 +265,7 @@ impl WarningKind {
                     && !is_used_in(program, thread, Use::Sets, number),
             ),
             WarningKind::NeverRead(thread) => Ok(
-                is_used_in(program, thread, Use::Fills, number)
+                is_used_in(program, thread, Use::OnlySets, number)
                     && !is_used_in(program, thread, Use::Reads, number),
             ),
             WarningKind::UnusedVariable => Ok(
@@ -279,19 +297,27 @@ impl WarningKind {
                 code_of(program, thread),
                 number,
             )?),
-            WarningKind::MayKeep(thread) => Ok(may_keep(alloc, code_of(program, thread), number)?),
-            WarningKind::MayLack(thread) => Ok(may_lack(alloc, code_of(program, thread), number)?),
+            WarningKind::MayKeep(thread) => Ok(may_stay_locked(
+                alloc,
+                code_of(program, thread),
+                number,
+            )?),
+            WarningKind::MayLack(thread) => Ok(may_unlock_unowned(
+                alloc,
+                code_of(program, thread),
+                number,
+            )?),
             WarningKind::LocksAgain(thread) => Ok(locks_again(
                 alloc,
                 code_of(program, thread),
                 number,
             )?),
-            WarningKind::WaitNotLookedAtAgain(thread) => Ok(is_not_looked_at_again(
+            WarningKind::WaitNotLookedAtAgain(thread) => Ok(waits_without_recheck(
                 alloc,
                 code_of(program, thread),
                 number,
             )?),
-            WarningKind::WaitsElsewhere(thread) => Ok(waits_elsewhere(
+            WarningKind::WaitsElsewhere(thread) => Ok(waits_with_mixed_mutexes(
                 program,
                 &program.code(thread)[number],
             )),

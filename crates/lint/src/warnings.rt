@@ -7,7 +7,7 @@ use crate::warning::{Warning, WarningKind};
 use guest_code::program::Program;
 use std::alloc::{AllocError, Global};
 
-// The kinds of warnings that are of objects, and so of no thread.
+// The kinds of warnings that are of an object of the program, and of no thread.
 const OF_OBJECTS: [WarningKind; 9] = [
     WarningKind::UnusedVariable,
     WarningKind::NeverStored,
@@ -20,7 +20,7 @@ const OF_OBJECTS: [WarningKind; 9] = [
     WarningKind::NeverReleased,
 ];
 
-// All kinds of warnings that a program may have: those of objects, and those of each thread.
+// All kinds of warnings that a program may have: those of objects, then those of each thread.
 fn kinds(alloc: Global, program: &Program) -> Result<Vec<WarningKind>, AllocError>
     ensures { IfOk result (λ v. v.items ≡ kinds_of program.now) }
 {
@@ -42,7 +42,8 @@ fn kinds(alloc: Global, program: &Program) -> Result<Vec<WarningKind>, AllocErro
     Ok(all)
 }
 
-// The warnings of a kind, of each number of which what the kind warns of is so.
+// The warnings of one kind, in the order of numbers: one for each local, object or instruction of
+// which what the kind warns of holds.
 fn warnings_of(
     alloc: Global,
     program: &Program,
@@ -53,14 +54,19 @@ fn warnings_of(
 {
     let mut all = Vec::new(alloc);
     for number in 0..kind.count(program) {
-        if kind.is_so(alloc, program, number)? {
+        if kind.applies_to(alloc, program, number)? {
             all.push(Warning { kind, number })?;
         }
     }
     Ok(all)
 }
 
-/// The warnings of a program, one kind after the other: exactly those that are so.
+/// The warnings of a program, one kind after the other: exactly those whose kind applies to their
+/// number.
+///
+/// # Errors
+///
+/// `AllocError` where memory runs out.
 pub fn all_warnings(alloc: Global, program: &Program) -> Result<Vec<Warning>, AllocError>
     ensures { IfOk result (λ v. Listed program.now (kinds_of program.now) v.items) }
 {

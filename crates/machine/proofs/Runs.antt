@@ -25,7 +25,7 @@ use Rattle.schedules.specs.Schedules.{state_after}
 use Rattle.schedules.proofs.UnfoldingUnderPrefix.{state_after-push}
 use Rattle.machine.specs.declared.control.Control.{Control}
 use Rattle.machine.specs.declared.machine.Run.{Run}
-use Rattle.machine.specs.declared.control.steps.Moving.{Moving}
+use Rattle.machine.specs.declared.control.steps.MovingThread.{MovingThread}
 use Rattle.machine.specs.Refinement.{HasObjects, HasThreadAt, IsControl}
 use Rattle.machine.specs.inner.LocalRuns.{narrow}
 use Rattle.machine.specs.inner.Parts.{IsLeaving}
@@ -68,7 +68,7 @@ place_next status pc e = ap (λ w. place_after w pc) e
 
 -- the first step
 pub begun : (p : Program) (s : Snapshot) (t : ℕ) (c d : Control) (cells mine cells' mine' : List ℤ)
-    (pc : ℕ) (m : Moving)
+    (pc : ℕ) (m : MovingThread)
     → IsReadyIn p s t c cells mine → IsPerformed p s t d cells' mine' m.status
     → pc ≡ (thread_at s t).pc → pc < length (code_of p t) → length mine' ≡ length mine
     → m.place ≡ place_after m.status pc → m.steps ≡ 1
@@ -200,7 +200,7 @@ objects_after p z t c cells mine place status h =
     subst (HasObjects c) (sym h.performed.step) h.performed.control.objects
 
 -- in the midst of a run: the thread goes on at an instruction of its code
-module _ (p : Program) (s : Snapshot) (t : ℕ) (c : Control) (cells mine : List ℤ) (m : Moving)
+module _ (p : Program) (s : Snapshot) (t : ℕ) (c : Control) (cells mine : List ℤ) (m : MovingThread)
     (code : List Instruction) (d : Instruction) (h : IsGoing p s t c cells mine m)
     (runs : m.status ≡ Running) (same : code ≡ code_of p t) (valid : IsValidCode p code)
     (short : m.place < length code) (faces : Faces c (slice_get code m.place)) where
@@ -244,7 +244,7 @@ module _ (p : Program) (s : Snapshot) (t : ℕ) (c : Control) (cells mine : List
       read can fine h.below)
 
   -- after its step
-  pub going_further : (d : Control) (cells' mine' : List ℤ) (n : Moving)
+  pub going_further : (d : Control) (cells' mine' : List ℤ) (n : MovingThread)
       → IsPerformed p (run_to p s t m.steps) t d cells' mine' n.status
       → length mine' ≡ length mine → n.place ≡ place_after n.status m.place
       → n.steps ≡ m.steps + 1 → has n.among t ≡ true
@@ -298,7 +298,7 @@ module _ (p : Program) (s : Snapshot) (t : ℕ) (c : Control) (cells mine : List
 
 -- one instruction more that the thread does by itself
 pub going_locally : (p : Program) (s : Snapshot) (t : ℕ) (c : Control) (cells mine mine' : List ℤ)
-    (m n : Moving) (next : ℕ) (code : List Instruction)
+    (m n : MovingThread) (next : ℕ) (code : List Instruction)
     → IsGoing p s t c cells mine m → m.status ≡ Running → code ≡ code_of p t
     → Runs next ≡ turn_of m.place mine (drop m.place code)
     → mine' ≡ locals_after mine (drop m.place code) → length mine' ≡ length mine
@@ -325,7 +325,7 @@ going_locally p s t c cells mine mine' m n next code h runs same turn made long 
 
 -- and one that leaves its locals
 pub going_kept : (p : Program) (s : Snapshot) (t : ℕ) (c : Control) (cells mine mine' : List ℤ)
-    (m : Moving) → IsGoing p s t c cells mine m → mine' ≡ mine → IsGoing p s t c cells mine' m
+    (m : MovingThread) → IsGoing p s t c cells mine m → mine' ≡ mine → IsGoing p s t c cells mine' m
 going_kept p s t c cells mine mine' m h same =
     subst (λ xs. IsGoing p s t c cells xs m) (sym same) h
 
@@ -339,7 +339,7 @@ visible_inside at locals code w turn there = elim (cases_lt at (length code)) [
 
 -- the run is over
 pub run_over : (p : Program) (s : Snapshot) (t : ℕ) (c d : Control) (cells mine mine' : List ℤ)
-    (m : Moving) (r : Run)
+    (m : MovingThread) (r : Run)
     → (h : IsGoing p s t c cells mine m)
     → IsStepped p (run_to p s t h.done) t d cells mine'
     → r.steps ≡ m.steps → r.among ≡ m.among → IsRunTo p s t r d cells mine'

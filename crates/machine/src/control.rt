@@ -22,9 +22,9 @@ use semantics::Landing;
 use semantics::mask::Mask;
 use semantics::state::Status;
 
-/// A state but for its values and queues: which threads can take a step and which are over, where
-/// each is, the mutexes and semaphores, and which threads are at each of them. It is copied as it
-/// is, and small, so that a copy takes no call.
+/// A state but for its values and queues: which threads can take a step, which have ended, where
+/// each thread is, the mutexes and semaphores, and which threads are at each of these. A control is
+/// small and copied as it is, so that a copy takes no call.
 #[derive(Clone, Copy, Debug)]
 pub struct Control {
     /// The threads that can take a step.
@@ -39,6 +39,7 @@ pub struct Control {
     pub(crate) places: [u16; THREADS],
     /// The thread that owns each mutex, or `FREE`.
     pub(crate) owners: [u8; OBJECTS],
+    /// The count of each semaphore.
     pub(crate) counts: [u16; OBJECTS],
     /// The threads whose next step takes each mutex, whether it is free or not.
     pub(crate) mutexes: [Mask; OBJECTS],
@@ -48,10 +49,10 @@ pub struct Control {
     pub(crate) lengths: [u8; OBJECTS],
 }
 
-/// In place of the owner of a mutex that is free.
+/// What stands for the owner of a mutex that is free.
 pub(crate) const FREE: u8 = 255;
 
-/// The set of the threads before this number.
+/// The set of the threads with numbers below this one.
 pub(crate) fn threads_below(number: u8) -> Mask
     requires { number ≤ THREADS }
     ensures { (t : ℕ) → has result t ≡ nat_lt t number }
@@ -71,8 +72,8 @@ fn threads_of(program: &Program) -> Mask
     threads_below(program.threads())
 }
 
-// The counts with which a program opens.
-fn counts_of(program: &Program) -> [u16; OBJECTS]
+// The counts of a program's semaphores in its opening state.
+fn opening_counts(program: &Program) -> [u16; OBJECTS]
     ensures { (k : ℕ) → slice_index_or result k 0 ≡ count_of (start program.now) k }
 {
     let mut counts = [0; OBJECTS];
@@ -82,8 +83,8 @@ fn counts_of(program: &Program) -> [u16; OBJECTS]
     counts
 }
 
-// A queue of this length with a thread put at its end: four bits for each, the last one lowest.
-fn joined(queue: i64, thread: u8, _length: u8) -> i64
+// A queue of `_length` threads, with `thread` put at its end: four bits each, the last one lowest.
+fn queue_with(queue: i64, thread: u8, _length: u8) -> i64
     requires thread { thread < THREADS }
     requires room { _length < THREADS }
     ensures { queued (_length + 1) result ≡ queued _length queue ++ thread ∷ [] }
@@ -91,8 +92,8 @@ fn joined(queue: i64, thread: u8, _length: u8) -> i64
     ((queue.cast_unsigned() << 4) | (thread as u64)).cast_signed()
 }
 
-// The first of a queue of this length.
-fn first_of(queue: i64, length: u8) -> u8
+// The first thread of a queue of `length` threads: four bits for each, the last one lowest.
+fn queue_front(queue: i64, length: u8) -> u8
     requires some { 0 < length }
     requires few { length ≤ THREADS }
     ensures few { result < THREADS }
@@ -102,8 +103,8 @@ fn first_of(queue: i64, length: u8) -> u8
 }
 
 impl Control {
-    /// The opening of a program before its threads are there.
-    pub(crate) fn unbegun(program: &Program) -> Control
+    /// The control of a program's opening state before any thread has arrived: none is enabled yet.
+    pub(crate) fn without_threads(program: &Program) -> Control
         ensures { IsOpenedTo program.now (start program.now) 0 result }
     {
         Control {
@@ -113,7 +114,7 @@ impl Control {
             woken: Mask::empty(),
             places: [0; THREADS],
             owners: [FREE; OBJECTS],
-            counts: counts_of(program),
+            counts: opening_counts(program),
             mutexes: [Mask::empty(); OBJECTS],
             semaphores: [Mask::empty(); OBJECTS],
             lengths: [0; OBJECTS],
@@ -128,8 +129,8 @@ impl Control {
         self.enabled
     }
 
-    // A thread that is at a mutex, which is free, takes it.
-    fn take(&mut self, thread: u8, m: usize)
+    // A thread takes the free mutex `m`, at which it is. The others there can't take a step then.
+    fn take_mutex(&mut self, thread: u8, m: usize)
         requires thread { thread < THREADS }
         requires m { m < OBJECTS }
         ensures lengths { self.new.lengths ≡ self.old.lengths }
@@ -145,8 +146,8 @@ impl Control {
         self.enabled = self.enabled.difference(near);
     }
 
-    // A mutex gets free.
-    fn give_back(&mut self, m: usize)
+    // Makes the mutex `m` free: the threads that are at it can take a step then.
+    fn free_mutex(&mut self, m: usize)
         requires m { m < OBJECTS }
         ensures lengths { self.new.lengths ≡ self.old.lengths }
         ensures frees { (p : Program) → (s : Snapshot) → (t : ℕ) → IsControlBut p self.old s t
@@ -157,7 +158,7 @@ impl Control {
         self.enabled = self.enabled.union(self.mutexes[m]);
     }
 
-    // A thread that is at a semaphore acquires it.
+    // A thread at the semaphore `k` acquires it. At count 0 then, others at it can take no step.
     fn acquire(&mut self, thread: u8, k: usize)
         requires thread { thread < THREADS }
         requires k { k < OBJECTS }
@@ -178,7 +179,7 @@ impl Control {
         }
     }
 
-    // A semaphore's count rises.
+    // Raises the count of the semaphore `k`: the threads that are at it can take a step then.
     fn release(&mut self, k: usize)
         requires k { k < OBJECTS }
         requires count { slice_index_or self.old.counts k 0 < COUNT }
@@ -192,8 +193,8 @@ impl Control {
         self.enabled = self.enabled.union(self.semaphores[k]);
     }
 
-    // A thread joins the queue of a condition, which is this cell.
-    fn put_last(&mut self, queue: &mut i64, thread: u8, c: usize)
+    // Puts a thread at the end of the queue of the condition `c`, which the cell `queue` holds.
+    fn enqueue(&mut self, queue: &mut i64, thread: u8, c: usize)
         requires thread { thread < THREADS }
         requires c { c < OBJECTS }
         requires room { slice_index_or self.old.lengths c 0 < THREADS }
@@ -206,12 +207,12 @@ impl Control {
             (record s { queues = slice_set s.queues c (queue_of s c ++ thread ∷ []) }) t }
     {
         let length = self.lengths[c];
-        *queue = joined(*queue, thread, length);
+        *queue = queue_with(*queue, thread, length);
         self.lengths[c] = length + 1;
     }
 
-    // Takes the first out of the queue of a condition, which is this cell.
-    fn take_first(&mut self, queue: i64, c: usize) -> u8
+    // Takes the first thread out of the `queue` of condition `c`: its length falls, the cell stays.
+    fn dequeue(&mut self, queue: i64, c: usize) -> u8
         requires c { c < OBJECTS }
         requires some { 0 < slice_index_or self.old.lengths c 0 }
         requires few { slice_index_or self.old.lengths c 0 ≤ THREADS }
@@ -224,12 +225,12 @@ impl Control {
             (record s { queues = slice_set s.queues c (drop 1 (queue_of s c)) }) t }
     {
         let length = self.lengths[c];
-        let thread = first_of(queue, length);
+        let thread = queue_front(queue, length);
         self.lengths[c] = length - 1;
         thread
     }
 
-    // A thread gets the marks of this status.
+    // Marks the status of an idle thread in the sets of the woken, unended and stopped threads.
     fn mark(&mut self, thread: u8, status: Status)
         requires thread { thread < THREADS }
         ensures lengths { self.new.lengths ≡ self.old.lengths }
@@ -243,8 +244,8 @@ impl Control {
         }
     }
 
-    // A thread is put to a mutex. Whether it is free.
-    fn stand_at(&mut self, thread: u8, m: usize) -> bool
+    // Puts a thread to the mutex `m`, which its next step takes. Answers whether the mutex is free.
+    fn stand_at_mutex(&mut self, thread: u8, m: usize) -> bool
         requires thread { thread < THREADS }
         requires m { m < OBJECTS }
         ensures lengths { self.new.lengths ≡ self.old.lengths }
@@ -256,7 +257,7 @@ impl Control {
         self.owners[m] == FREE
     }
 
-    // A running thread is put to what this instruction takes. Whether it may go on.
+    // Puts a running thread to what its next instruction takes. Answers whether it can take a step.
     #[inline(always)]
     fn stand_running(&mut self, instruction: &Instruction, thread: u8) -> bool
         requires thread { thread < THREADS }
@@ -266,7 +267,7 @@ impl Control {
             → Stands self.old self.new s thread (action_of instruction.now) result }
     {
         match instruction {
-            Instruction::Lock(m) => self.stand_at(thread, *m),
+            Instruction::Lock(m) => self.stand_at_mutex(thread, *m),
             Instruction::Acquire(k) => {
                 self.semaphores[*k] = self.semaphores[*k].with(thread, true);
                 self.counts[*k] > 0
@@ -279,7 +280,7 @@ impl Control {
         }
     }
 
-    // A woken thread is put to the mutex of its `wait`. Whether it may go on.
+    // Puts a woken thread to the mutex of its `wait`. Answers whether the thread can take a step.
     fn stand_woken(&mut self, instruction: &Instruction, thread: u8) -> bool
         requires thread { thread < THREADS }
         requires fine { (p : Program) × IsValid p instruction.now × IsWellFormed p }
@@ -288,12 +289,12 @@ impl Control {
             → Stands self.old self.new s thread (retake_of instruction.now) result }
     {
         match instruction {
-            Instruction::Wait { mutex, .. } => self.stand_at(thread, *mutex),
+            Instruction::Wait { mutex, .. } => self.stand_at_mutex(thread, *mutex),
             _ => false,
         }
     }
 
-    // A thread is put to what its next step takes. Whether it can take a step.
+    // Puts a thread that lands to what its next step takes. Answers whether it can take a step.
     #[inline(always)]
     fn stand(&mut self, code: &[Instruction], thread: u8, at: Landing) -> bool
         requires thread { thread < THREADS }
@@ -320,7 +321,7 @@ impl Control {
         }
     }
 
-    /// An idle thread lands: it gets its status, its place, and whether it is enabled.
+    /// An idle thread, at no mutex or semaphore, lands: gets its status and place, enabled or not.
     #[inline(always)]
     pub(crate) fn arrive(&mut self, code: &[Instruction], thread: u8, at: Landing)
         requires thread { thread < THREADS }
@@ -338,7 +339,7 @@ impl Control {
         self.enabled = self.enabled.with(thread, on);
     }
 
-    // A thread that waits is woken.
+    // Wakes a thread that waits: its next step takes the mutex of its `wait` again.
     fn wake(&mut self, program: &Program, thread: u8)
         requires thread { thread < length program.now.threads }
         ensures lengths { self.new.lengths ≡ self.old.lengths }

@@ -10,8 +10,8 @@
 //! Each public contract speaks of the state that is shown (`Shows` in `specs/Refinement.antt`):
 //!
 //! - [`Machine::start`] shows the opening state. It alone takes memory.
-//! - [`Machine::run`] shows the state after the defined steps of a thread: one, or further ones while
-//!   the same threads stay enabled.
+//! - [`Machine::run`] shows the state after the defined steps of a thread: one, or further ones
+//!   while the same threads stay enabled.
 //! - [`Machine::enabled`], [`Machine::kind`] and [`Machine::variables`] answer what the definitions
 //!   say of the state, and [`Machine::sleepers`] who sleeps after a step.
 //! - A copy is a [`Control`] and as many words as there are values; [`Machine::restore`] shows the

@@ -26,7 +26,7 @@ use std::alloc::{AllocError, Global};
 
 // For how many values a machine has room: the most that there are, and more than a line of a
 // processor's cache, so that no two machines' values are in one.
-const ROOM: usize = VARIABLES + OBJECTS + THREADS * LOCALS + 16;
+const VALUES_ROOM: usize = VARIABLES + OBJECTS + THREADS * LOCALS + 16;
 
 /// A state of a program, in a form that is fast to step and to copy.
 #[derive(Drop)]
@@ -62,8 +62,8 @@ pub struct Run {
     pub enabled: Mask,
 }
 
-// The most locals that a thread has.
-fn width_of(program: &Program) -> usize
+// The most locals that a thread of a program has.
+fn most_locals(program: &Program) -> usize
     ensures few { result ≤ LOCALS }
     ensures wide { All (λ th. All (LocalsBelow result) th.code) program.now.threads }
 {
@@ -75,7 +75,7 @@ fn width_of(program: &Program) -> usize
     width
 }
 
-// Whether a set is empty.
+// Whether a set of threads is empty.
 fn is_empty(mask: Mask) -> bool
     ensures none { IsTrue result → (t : ℕ) → has mask t ≡ false }
     ensures some { IsFalse result → (t : ℕ) × (has mask t ≡ true) }
@@ -84,8 +84,8 @@ fn is_empty(mask: Mask) -> bool
 }
 
 impl Machine {
-    // Puts in a thread as it is in the opening state.
-    fn admit(&mut self, program: &Program, state: &State, thread: u8) -> Result<(), AllocError>
+    // Adds a thread, the next by its number, as it is in the opening state of the program: `state`.
+    fn add_thread(&mut self, program: &Program, state: &State, thread: u8) -> Result<(), AllocError>
         requires state { state.now ≡ start program.now }
         requires of { IsOf program.now state.now }
         requires thread { thread < length program.now.threads }
@@ -106,8 +106,8 @@ impl Machine {
         Ok(())
     }
 
-    /// The opening state of a program: each thread has run its own instructions. Only this takes
-    /// memory.
+    /// A machine that shows the opening state of a program, in which each thread has run up to its
+    /// first visible statement. No other call takes memory.
     ///
     /// # Errors
     ///
@@ -117,28 +117,28 @@ impl Machine {
     {
         program.keeps_limits();
         let state = State::start(alloc, program)?;
-        let mut values = Vec::with_capacity(alloc, ROOM)?;
+        let mut values = Vec::with_capacity(alloc, VALUES_ROOM)?;
         values.extend_from_slice(state.variables())?;
         values.extend_from_slice(&[0; OBJECTS][..program.conditions() as usize])?;
         let touches = Touches::of(alloc, program)?;
         let mut machine = Machine {
-            control: Control::unbegun(program),
+            control: Control::without_threads(program),
             values,
             shape: Shape {
                 fixed: program.variables() as usize,
-                width: width_of(program),
+                width: most_locals(program),
                 touches,
             },
         };
         for t in 0..program.threads() {
-            machine.admit(program, &state, t)?;
+            machine.add_thread(program, &state, t)?;
         }
         Ok(machine)
     }
 
-    /// A run of an enabled thread: a step and, where the thread is alone, further ones, while it is
-    /// enabled and the set of the enabled threads is what it was after the first. It takes no
-    /// memory.
+    /// Runs an enabled thread: a step and, where the thread is alone, further ones, while it is
+    /// enabled and the set of the enabled threads is what it was after the first step. `alone` says
+    /// that no other thread may step while this one can. It takes no memory.
     #[inline(always)]
     pub fn run(&mut self, program: &Program, thread: u8, alone: bool) -> Run
         requires { (s : Snapshot) × Shows program.now self.old s
@@ -161,7 +161,7 @@ impl Machine {
     {
         let values = self.values.as_mut_slice();
         self.control
-            .run_over(values, program, thread, alone, &self.shape)
+            .run_on_values(values, program, thread, alone, &self.shape)
     }
 
     /// The set of the enabled threads.
@@ -205,8 +205,8 @@ impl Machine {
         self.shape.touches.threads[thread as usize][place][woken as usize]
     }
 
-    // The other enabled threads that sleep, where these sleep now, or come before this one.
-    fn tried(&self, asleep: Mask, thread: u8) -> Mask
+    // The other enabled threads that are asleep or before `thread`: after its step they may sleep.
+    fn sleep_candidates(&self, asleep: Mask, thread: u8) -> Mask
         requires thread { thread < THREADS }
         requires before { AreBefore self.now.shape.touches.before }
         ensures itself { has result thread ≡ false }
@@ -218,9 +218,8 @@ impl Machine {
         others.difference(others.difference(asleep.union(before)))
     }
 
-    /// Who sleeps after a step of an enabled thread, where these sleep now: the enabled threads
-    /// that slept or come before it, and whose next steps are independent of its own. It takes no
-    /// memory.
+    /// Who sleeps after a step of an enabled thread, where `asleep` sleep now: the enabled threads
+    /// that sleep now or come before that thread, and whose next steps are independent of its step.
     pub fn sleepers(&self, _program: &Program, asleep: Mask, thread: u8) -> Mask
         requires { (s : Snapshot) × Shows _program.now self.now s
             × (is_enabled _program.now s thread ≡ true) }
@@ -228,7 +227,7 @@ impl Machine {
             → is_enabled _program.now s thread ≡ true
             → result ≡ mask_of (next_sleep_set _program.now s (has asleep) thread) }
     {
-        let mut sleepers = self.tried(asleep, thread);
+        let mut sleepers = self.sleep_candidates(asleep, thread);
         if is_empty(sleepers) {
             return sleepers;
         }
@@ -243,21 +242,21 @@ impl Machine {
         sleepers
     }
 
-    /// All but the values, to be copied.
+    /// A copy of all of the state but its values.
     pub fn control(&self) -> Control
         ensures { result ≡ self.now.control }
     {
         self.control
     }
 
-    /// How many values there are.
+    /// How many values the state has, each a word.
     pub fn size(&self) -> usize
         ensures { result ≡ length self.now.values.items }
     {
         self.values.len()
     }
 
-    /// Copies the values into as many words.
+    /// Copies the state's values into as many words.
     pub fn copy_into(&self, words: &mut [i64])
         requires { length words.old ≡ length self.now.values.items }
         ensures { words.new ≡ self.now.values.items }
@@ -265,7 +264,7 @@ impl Machine {
         words.copy_from_slice(self.values.as_slice());
     }
 
-    /// Goes back to a state that was copied: it shows what the machine showed then.
+    /// Goes back to a state of which these are copies: the machine shows what it showed then.
     pub fn restore(&mut self, control: &Control, words: &[i64])
         requires { length words.now ≡ length self.old.values.items }
         ensures shows { (p : Program) → (s : Snapshot) → (m : Machine) → Shows p m s

@@ -23,9 +23,9 @@ use std::alloc::{AllocError, Global};
 /// two objects have one bit.
 #[derive(Clone, Copy)]
 pub(crate) struct Touch {
-    /// All of them.
+    /// All objects that the step touches.
     pub(crate) all: u64,
-    /// Those that it writes.
+    /// The objects that the step writes.
     pub(crate) written: u64,
 }
 
@@ -40,7 +40,7 @@ pub(crate) struct Touches {
 }
 
 impl Touch {
-    // One object, by the number of its bit, which is written.
+    // The touch of one object, by the number of its bit, that is written.
     fn writing(bit: usize) -> Touch
         requires { bit < 64 }
         ensures all { result.all ≡ 2 ^ bit }
@@ -52,8 +52,8 @@ impl Touch {
         }
     }
 
-    // The objects of both.
-    fn and(self, other: Touch) -> Touch
+    // The objects of two touches together.
+    fn union(self, other: Touch) -> Touch
         ensures all { result.all ≡ bit_or self.all other.all }
         ensures written { result.written ≡ bit_or self.written other.written }
     {
@@ -63,7 +63,7 @@ impl Touch {
         }
     }
 
-    // What a step on a variable touches.
+    // What an action on a variable touches.
     fn of_variable(variable: usize, action: VariableAction) -> Touch
         requires { variable < VARIABLES }
         ensures { result ≡ touch_of (Some (OnVariable variable action)) }
@@ -80,7 +80,7 @@ impl Touch {
         }
     }
 
-    // What a step touches.
+    // What an action touches.
     fn of_action(action: Action) -> Touch
         requires { (p : Program) × IsWellFormed p × IsValidAction p action }
         ensures { result ≡ touch_of (Some action) }
@@ -88,13 +88,13 @@ impl Touch {
         match action {
             Action::OnVariable(x, action) => Touch::of_variable(x, action),
             Action::OnMutex(m, _) => Touch::writing(4 * m + 1),
-            Action::Wait(c, m) => Touch::writing(4 * c + 2).and(Touch::writing(4 * m + 1)),
+            Action::Wait(c, m) => Touch::writing(4 * c + 2).union(Touch::writing(4 * m + 1)),
             Action::OnCondition(c, _) => Touch::writing(4 * c + 2),
             Action::OnSemaphore(k, _) => Touch::writing(4 * k + 3),
         }
     }
 
-    // What a step touches, if there is one.
+    // What an action touches, if there is one, and nothing else.
     fn of(action: Option<Action>) -> Touch
         requires { (p : Program) × IsWellFormed p × IfSome action (IsValidAction p) }
         ensures { result ≡ touch_of action }
@@ -105,7 +105,7 @@ impl Touch {
         }
     }
 
-    /// Whether no object is touched by both with one of them writing it.
+    /// Whether two steps are independent: no object is touched by both and written by one of them.
     #[inline(always)]
     pub(crate) fn is_apart(self, other: Touch) -> bool
         ensures { (a : Action) → (b : Action) → self ≡ touch_of (Some a)
@@ -115,7 +115,7 @@ impl Touch {
     }
 }
 
-// What a step touches at this instruction, where the thread runs and where it was woken.
+// What a step at an instruction touches: that of a thread that runs, and that of a woken one.
 fn touches_at(instruction: &Instruction) -> [Touch; 2]
     requires { (p : Program) × IsWellFormed p × IsValid p instruction.now }
     ensures { result ≡ touches_at instruction.now }
@@ -127,7 +127,7 @@ fn touches_at(instruction: &Instruction) -> [Touch; 2]
 }
 
 // For each thread, the threads before it.
-fn sets_before() -> [Mask; THREADS]
+fn threads_before() -> [Mask; THREADS]
     ensures { AreBefore result }
 {
     let mut before = [Mask::empty(); THREADS];
@@ -169,7 +169,7 @@ impl Touches {
             threads.push(thread_touches(alloc, program, t)?)?;
         }
         Ok(Touches {
-            before: sets_before(),
+            before: threads_before(),
             threads,
         })
     }

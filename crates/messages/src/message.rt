@@ -15,10 +15,10 @@ pub mod texts;
 /// How many bytes of a source line are shown at most.
 pub const SHOWN: usize = 92;
 
-/// Where some bytes of a text are.
+/// Consecutive bytes of a text.
 #[derive(Clone, Copy, Debug, PartialEq, Eq)]
 pub struct Span {
-    /// The place of the first byte.
+    /// The line and the column of the first byte.
     pub at: Pos,
     /// How many bytes there are.
     pub length: usize,
@@ -54,14 +54,15 @@ impl fmt::Display for Severity {
     }
 }
 
-/// What a person is told of a refusal, a warning or a remark on a text.
+/// A refusal of a text, or a warning or a remark on it, with what a person is told of it.
 #[derive(Debug, Drop)]
 pub struct Diagnostic {
     /// How grave the diagnostic is.
     pub severity: Severity,
-    /// The short form: of a refusal, the line that other commands print after `ctxbound: `.
+    /// The short form, in one line: of a refusal, what the commands but `check` print after
+    /// `ctxbound: `.
     pub headline: String,
-    /// The bytes of the text that are marked, if the diagnostic has a place.
+    /// The bytes of the text that are marked; `None` where the diagnostic has no place.
     pub span: Option<Span>,
     /// What was found at the place, or wanted there.
     pub message: Vec<u8>,
@@ -70,34 +71,37 @@ pub struct Diagnostic {
 }
 
 impl Diagnostic {
-    /// The number and the name of the diagnostic: the second and the third word of the short form.
+    /// The number and the name of the kind of diagnostic, as `S1` and `NotAscii`: the second and
+    /// the third word of the short form.
     pub fn code(&self) -> (&str, &str)
         ensures number { result.0.now ≡ code_number (string_bytes self.now.headline) }
         ensures name { result.1.now ≡ code_name (string_bytes self.now.headline) }
     {
-        let (_, rest) = cut_at_blank(&self.headline);
-        let (number, rest) = cut_at_blank(rest);
-        let (name, _) = cut_at_blank(rest);
+        let (_, rest) = split_at_blank(&self.headline);
+        let (number, rest) = split_at_blank(rest);
+        let (name, _) = split_at_blank(rest);
         (number, name)
     }
 
-    /// The line and the column of the diagnostic; past all others where there is no place.
+    /// The line and the column of the diagnostic; where it has no place, the greatest numbers,
+    /// which sort behind all places.
     pub fn place(&self) -> (u32, u32) {
         self.span
             .map_or((u32::MAX, u32::MAX), |span| (span.at.line, span.at.col))
     }
 }
 
-// What is before the first blank of a text, and what is after that blank; all of the text and nothing
-// where there is no blank.
-fn cut_at_blank(text: &str) -> (&str, &str)
+// What comes before the first blank of a text, and what comes after that blank; where there is no
+// blank, the whole text and an empty one.
+fn split_at_blank(text: &str) -> (&str, &str)
     ensures before { result.0.now ≡ before_first is_blank text.now }
     ensures after { result.1.now ≡ after_first is_blank text.now }
 {
     text.split_once(' ').unwrap_or((text, ""))
 }
 
-// What is left of a text from a line on; lines count from 1.
+// The rest of a text from the start of a line on; empty where there is no such line. Lines count
+// from 1.
 fn from_line(text: &[u8], line: u32) -> &[u8]
     ensures { result.now ≡ from_line text.now line }
 {
@@ -113,14 +117,14 @@ fn from_line(text: &[u8], line: u32) -> &[u8]
     &[]
 }
 
-// Whether a byte doesn't end a line.
+// Whether a byte belongs to the line that it is in: it is no line feed.
 fn is_in_line(byte: u8) -> bool
     ensures { result ≡ is_in_line byte }
 {
     byte != b'\n'
 }
 
-// How many bytes come before the first line feed.
+// How many bytes of a text come before its first line feed; all where it has none.
 fn line_length(text: &[u8]) -> usize
     ensures { result ≡ prefix_len is_in_line text.now }
 {
@@ -134,14 +138,16 @@ fn first_line(text: &[u8]) -> &[u8]
     &text[..line_length(text)]
 }
 
-/// A line of the text, without its line feed; lines count from 1.
+/// A line of a text, without its line feed; empty where there is no such line. Lines count from 1.
 pub fn line_of(text: &[u8], line: u32) -> &[u8]
     ensures { result.now ≡ line_of text.now line }
 {
     first_line(from_line(text, line))
 }
 
-/// How a byte of a source line is shown: each is one column.
+/// The printable character that stands for a byte of a source line: a blank for a tab and a
+/// carriage return, a question mark for any other byte that can't be printed. So each byte is one
+/// column.
 pub fn shown(byte: u8) -> u8
     ensures { result ≡ shown byte }
 {
@@ -154,8 +160,10 @@ pub fn shown(byte: u8) -> u8
     }
 }
 
-// How many bytes at the start of a line of a length are not shown, so that the byte at a column is.
-fn left_out(length: usize, column: usize) -> usize
+// The index of the first byte that is shown of a line of `length` bytes, of which at most `SHOWN`
+// are: such that the byte at index `column` is as near to the middle of the shown ones as it can
+// be.
+fn first_shown(length: usize, column: usize) -> usize
     ensures value { result ≡ left_out length column }
     ensures few { result ≤ length }
 {
@@ -175,7 +183,8 @@ fn put_many(out: &mut Vec<u8>, byte: u8, count: usize) -> Result<(), AllocError>
     Ok(())
 }
 
-// Adds the margin of a source line, with its number to the right.
+// Adds what comes to the left of a source line: the number of the line, right-aligned in 5 columns
+// or more, and a bar.
 fn put_margin(out: &mut Vec<u8>, line: u32) -> Result<(), AllocError>
     ensures { Puts result out.old out.new (margin line) }
 {
@@ -185,7 +194,11 @@ fn put_margin(out: &mut Vec<u8>, line: u32) -> Result<(), AllocError>
     out.extend_from_slice(b" | ")
 }
 
-/// Adds bytes, each in the form in which `shown` shows a byte.
+/// Adds bytes of a source line, each as the character that [`shown`] has for it.
+///
+/// # Errors
+///
+/// `AllocError` where memory runs out.
 pub fn put_shown(out: &mut Vec<u8>, bytes: &[u8]) -> Result<(), AllocError>
     ensures { Puts result out.old out.new (map shown bytes.now) }
 {
@@ -195,7 +208,7 @@ pub fn put_shown(out: &mut Vec<u8>, bytes: &[u8]) -> Result<(), AllocError>
     Ok(())
 }
 
-// The first bytes, as many as a source line shows.
+// The first bytes, at most `SHOWN`: as many as are shown of a source line.
 #[tactic(auto, using(std::proofs::lemmas::List::take_min))]
 fn first_bytes(rest: &[u8]) -> &[u8]
     ensures { result.now ≡ take SHOWN rest.now }
@@ -204,8 +217,8 @@ fn first_bytes(rest: &[u8]) -> &[u8]
     &rest[..end]
 }
 
-// Adds the part of a source line that is shown, from a byte on.
-fn put_source(out: &mut Vec<u8>, line: &[u8], from: usize) -> Result<(), AllocError>
+// Adds the part of a source line that is shown, from the byte at index `from` on, and a line feed.
+fn put_source_line(out: &mut Vec<u8>, line: &[u8], from: usize) -> Result<(), AllocError>
     requires { from ≤ length line.now }
     ensures { Puts result out.old out.new (source_line line.now from) }
 {
@@ -215,7 +228,8 @@ fn put_source(out: &mut Vec<u8>, line: &[u8], from: usize) -> Result<(), AllocEr
     Ok(())
 }
 
-// Adds blanks under the first bytes of a shown line, up to a column, and marks under the next ones.
+// Adds what comes below a source line: a bar, `column` blanks, and `length` marks, or as many as
+// fit under the part of the line that is shown, but at least one.
 fn put_marks(out: &mut Vec<u8>, column: usize, length: usize, mark: u8) -> Result<(), AllocError>
     ensures { Puts result out.old out.new (marks_line column length mark) }
 {
@@ -224,8 +238,8 @@ fn put_marks(out: &mut Vec<u8>, column: usize, length: usize, mark: u8) -> Resul
     put_many(out, mark, length.min(SHOWN.saturating_sub(column)).max(1))
 }
 
-// Adds what is said, after the bytes `first`, and a line feed; the line feed alone if nothing is said.
-fn put_said(out: &mut Vec<u8>, first: &[u8], said: &[u8]) -> Result<(), AllocError>
+// Adds the bytes `first`, the message `said` and a line feed; the line feed alone if it is empty.
+fn put_message_line(out: &mut Vec<u8>, first: &[u8], said: &[u8]) -> Result<(), AllocError>
     ensures { Puts result out.old out.new (said_line first.now said.now) }
 {
     if !said.is_empty() {

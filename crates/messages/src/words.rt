@@ -1,4 +1,4 @@
-//! A number as text.
+//! Numbers as text.
 
 ghost use Rattle.std.specs.Prelude.{◌≡◌, IfOk, string_bytes};
 ghost use Rattle.std.specs.Fmt.{decimal};
@@ -6,6 +6,10 @@ ghost use Rattle.std.specs.Fmt.{decimal};
 use std::alloc::{AllocError, Global};
 
 /// A number in decimal.
+///
+/// # Errors
+///
+/// `AllocError` where memory runs out.
 pub fn decimal(alloc: Global, number: u64) -> Result<String, AllocError>
     ensures { IfOk result (λ s. string_bytes s ≡ decimal number) }
 {

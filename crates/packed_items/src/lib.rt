@@ -14,13 +14,13 @@ use prefix_list::{LastFirst, Prefixes};
 use std::alloc::{AllocError, Global};
 use std::sync::Arc;
 
-/// Writes the items of the last `count` prefixes of a list, in their order, over others of their
-/// program. The prefixes run.
+/// Writes the items of a list's last `count` prefixes, in the list's order, over `items`, others of
+/// the program. All prefixes of the list run.
 ///
 /// # Errors
 ///
 /// `AllocError` where memory runs out.
-pub fn last_items(
+pub fn write_last_items(
     alloc: Global,
     program: &Arc<Program>,
     prefixes: &Prefixes,
@@ -40,16 +40,16 @@ pub fn last_items(
     }
     let mut reading = prefixes.last_first(alloc)?;
     for place in 0..count {
-        write_last(alloc, program, &reading, items, place)?;
+        write_last_item(alloc, program, &reading, items, place)?;
         reading.advance();
     }
     items.reverse();
     Ok(())
 }
 
-// Writes the item of the last of the prefixes that are still to be read over the one at a place, of
-// the same program, or after the others.
-fn write_last(
+// Writes the item of the last prefix that `reading` has still to read over the item at a place, one
+// of the program, or at the end of `items` where there is none at that place.
+fn write_last_item(
     alloc: Global,
     program: &Arc<Program>,
     reading: &LastFirst<'_>,
@@ -70,9 +70,9 @@ fn write_last(
         unreachable!()
     };
     if place < items.len() {
-        items[place].run_to(prefix)
+        items[place].set_prefix(prefix)
     } else {
-        let item = Item::running(alloc, Arc::try_clone(program)?, prefix)?;
+        let item = Item::at_known(alloc, Arc::try_clone(program)?, prefix)?;
         Ok(items.push(item)?)
     }
 }
@@ -94,5 +94,5 @@ pub fn last_item(
     let Some(prefix) = prefixes.last() else {
         unreachable!()
     };
-    Item::running(alloc, Arc::try_clone(program)?, prefix)
+    Item::at_known(alloc, Arc::try_clone(program)?, prefix)
 }

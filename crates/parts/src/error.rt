@@ -1,4 +1,4 @@
-//! Why a line is no part's.
+//! Why a line is that of no part.
 
 ghost use Rattle.std.specs.Prelude.{◌≡◌};
 ghost use Rattle.parts.specs.declared.error.PartError.TheVariants.{OutOfMemory};
@@ -7,12 +7,12 @@ use std::alloc::{AllocError, AllocFailed};
 use std::fmt;
 use thiserror::Error;
 
-/// Why a line is no part's.
+/// Why a line is that of no part.
 #[derive(Clone, Copy, Debug, PartialEq, Eq, Error)]
 pub enum PartError {
-    /// The line is no JSON.
+    /// The line isn't JSON.
     NotJson,
-    /// The JSON is no object, or one without this key.
+    /// The JSON is no object, or an object without this key.
     Missing(&'static str),
     /// The value of this key isn't what it has to be.
     Wrong {
@@ -21,16 +21,17 @@ pub enum PartError {
         /// What its value has to be.
         wanted: &'static str,
     },
-    /// The ends are not sorted, or there is a bad schedule where none failed or got stuck, or none
-    /// where some did.
+    /// The end views aren't sorted; or a bad schedule is named where the counts say that none
+    /// failed or got stuck, or none is named where they say that some did.
     Inconsistent,
-    /// The JSON isn't what is printed of a part: it has a key more, or spells something otherwise.
+    /// The JSON isn't what is printed of the part that was read: it has a key more, or spells a
+    /// value, as a schedule or the digest, in another way.
     NotPrinted,
     /// Memory ran out.
     OutOfMemory,
 }
 
-/// What the user is told: what is wrong with the line, with the key where it is of one.
+/// The message for the user: what is wrong with the line, and with which key, if with one.
 impl fmt::Display for PartError {
     ghost use Rattle.std.specs.Prelude.{Some};
     ghost use Rattle.parts.specs.ErrorTexts.{part_error_text};
@@ -68,16 +69,17 @@ impl<T: Drop> From<AllocFailed<T>> for PartError {
     }
 }
 
-/// Which line of a text is no part's, and why.
+/// Which line of a text is that of no part, and why.
 #[derive(Clone, Copy, Debug, PartialEq, Eq, Error)]
 pub struct LineError {
-    /// The number of the first line that is no part's, counted from 1.
+    /// The number, counted from 1, of the first line that is that of no part, or at which memory
+    /// ran out.
     pub number: u64,
-    /// Why that line is no part's.
+    /// Why the line is that of no part, or that memory ran out.
     pub error: PartError,
 }
 
-/// What the user is told after the name of a file: the line's number, and what is wrong with it.
+/// The message for the user after the name of a file: the line's number, and what is wrong with it.
 impl fmt::Display for LineError {
     ghost use Rattle.std.specs.Prelude.{Some};
     ghost use Rattle.parts.specs.ErrorTexts.{line_error_text};

@@ -1,11 +1,12 @@
-//! What tells which text a guest is.
+//! The length and the digest that tell a guest's text from others.
 
 ghost use Rattle.std.specs.Prelude.{◌≡◌};
 ghost use Rattle.parts.specs.PartText.{guest_of};
 
 use sha2::{Digest, Sha256};
 
-/// What stands for a guest's text: two texts of equal length and digest are taken for one.
+/// A guest's text by its length and its digest: texts that are equal in both are taken for the
+/// same.
 #[derive(Clone, Copy, Debug, PartialEq, Eq)]
 pub struct GuestDigest {
     /// How many bytes the text has.

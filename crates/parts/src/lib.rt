@@ -2,9 +2,10 @@
 //!
 //! - [`Part`] is what a search under a prefix found at a bound, and of which guest.
 //! - [`GuestDigest`] tells a guest's text from other texts, by its length and its digest.
-//! - [`part_line`] prints a part as the defined line, byte for byte.
-//! - [`part_from`] reads the line of a part, and [`parts_from`] the lines of a text, with blanks and
-//!   keys in any order. A line is read exactly where it is JSON of a part, and then as that part.
+//! - [`part_line`] prints a part as a line, byte for byte the defined one.
+//! - [`part_from`] reads a part from its line, and [`parts_from`] those of the lines of a text,
+//!   with any blanks and keys in any order. What [`part_line`] prints is read back as the same
+//!   part; any other JSON is refused.
 //! - [`PartError`] and [`LineError`] say why a line is no part's.
 #![tactic(auto)]
 

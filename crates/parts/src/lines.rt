@@ -1,4 +1,4 @@
-//! Reading of parts, one a line.
+//! Reading of the parts of a text, which has one part a line.
 
 ghost use Rattle.std.specs.Prelude.{◌≡◌, ◌∷◌, ◌++◌, [], List, All, map, MatchResult, IfOk, IfErr, OnOk};
 ghost use Rattle.parts.specs.PartText.{PartView, IsPart, part_view};
@@ -10,11 +10,13 @@ use crate::part::Part;
 use crate::reading::part_from;
 use std::alloc::Global;
 
-/// The parts of a text that has one a line, in their order. Blank lines are passed over.
+/// The parts of a text that has one part a line, in the order of the lines. Blank lines are passed
+/// over.
 ///
 /// # Errors
 ///
-/// The first line that is no part's, and why; `OutOfMemory` where memory runs out.
+/// The number of the first line that is no part's, and why it is none; `OutOfMemory` with the line
+/// that was read where memory ran out.
 pub fn parts_from(alloc: Global, text: &[u8]) -> Result<Vec<Part>, LineError>
     ensures are_lines { IfOk result (λ parts.
         AreLinesOf (lines_of text.now) (map part_view parts.items)) }
@@ -34,7 +36,8 @@ pub fn parts_from(alloc: Global, text: &[u8]) -> Result<Vec<Part>, LineError>
     Ok(parts)
 }
 
-// Reads the part of a line and puts it at the end of `parts`, unless the line is blank.
+// Reads the part of a line and pushes it to `parts`; of a blank line pushes none. An error where
+// the line is neither blank nor a part's, or memory runs out.
 fn push_part(parts: &mut Vec<Part>, alloc: Global, line: &[u8]) -> Result<(), PartError>
     ensures is_line { OnOk result ((xs : List PartView) × AreLinesOf (line.now ∷ []) xs
         × (map part_view parts.new.items ≡ map part_view parts.old.items ++ xs)) }
@@ -49,7 +52,7 @@ fn push_part(parts: &mut Vec<Part>, alloc: Global, line: &[u8]) -> Result<(), Pa
     Ok(())
 }
 
-// Whether a line has nothing but blanks.
+// Whether a line is empty or has nothing but ASCII whitespace.
 fn is_blank(line: &[u8]) -> bool
     ensures { result ≡ is_blank line.now }
 {

@@ -1,4 +1,4 @@
-//! The line of a part.
+//! Printing of a part as a line of JSON.
 
 ghost use Rattle.std.specs.Prelude.{◌≡◌, IfOk};
 ghost use Rattle.serde_json.specs.View.{view};
@@ -23,7 +23,7 @@ pub fn part_line(alloc: Global, part: &Part) -> Result<Vec<u8>, AllocError>
     part_value(alloc, part)?.to_vec(alloc)
 }
 
-// The JSON of a part: an object, its keys in the order of their bytes.
+// The JSON object of a part, its keys in the order of their bytes.
 fn part_value(alloc: Global, part: &Part) -> Result<Value, AllocError>
     ensures { IfOk result (λ v. view v ≡ part_data (part_view part.now)) }
 {
@@ -60,7 +60,7 @@ fn part_value(alloc: Global, part: &Part) -> Result<Value, AllocError>
     Ok(Value::Object(members))
 }
 
-// The JSON of which guest it is: the length of its text, and the digest in hex.
+// The JSON object of a guest: `bytes`, the length of its text, and `sha256`, the digest in hex.
 fn guest_value(alloc: Global, guest: GuestDigest) -> Result<Value, AllocError>
     ensures { IfOk result (λ v. view v ≡ guest_data guest) }
 {

@@ -1,4 +1,4 @@
-//! Reading of parts.
+//! Reading of a part from its line of JSON.
 
 ghost use Rattle.std.specs.Prelude.{◌≡◌, ◌≤◌, ◌<◌, ◌^◌, ℕ, ℤ, FitsSigned, Bool, List, Option, All, Some, MatchResult, IfSome, IfOk, IfErr, OnOk, IsUtf8, option_map};
 ghost use Rattle.std.specs.Int.{w64};
@@ -30,12 +30,12 @@ use serde_json::Value;
 use std::alloc::Global;
 use summary::{Counts, Summary};
 
-/// The part whose line this is: JSON of what [`part_line`] prints, with any blanks, and with its
-/// keys in any order.
+/// Reads a part from a line: from the JSON object that [`part_line`] prints of it, with any blanks
+/// between, and with its keys in any order.
 ///
 /// # Errors
 ///
-/// Why the line is no part's; `OutOfMemory` where memory runs out.
+/// Why the line is that of no part; `OutOfMemory` where memory runs out.
 pub fn part_from(alloc: Global, line: &[u8]) -> Result<Part, PartError>
     ensures is_line { IfOk result (λ x. IsLineOf line.now (part_view x)) }
     ensures reads { (x : PartView) → IsPart x → IsLineOf line.now x →
@@ -51,7 +51,7 @@ pub fn part_from(alloc: Global, line: &[u8]) -> Result<Part, PartError>
     Ok(part)
 }
 
-// The value that a line spells in JSON; `NotJson` where it spells none.
+// The JSON value that a line spells; `NotJson` where it spells none.
 fn value_of(alloc: Global, line: &[u8]) -> Result<Value, PartError>
     ensures value { IfOk result (λ v. IsUtf8 line.now × (read line.now ≡ Some (view v))) }
     ensures nests { IfOk result (λ v. depth (view v) ≤ max_depth) }
@@ -68,7 +68,7 @@ fn value_of(alloc: Global, line: &[u8]) -> Result<Value, PartError>
     }
 }
 
-// The value of a key of an object; `Missing` where there is none.
+// The value of a key of a JSON object; `Missing` where it has no such key or is no object.
 fn field<'v>(object: &'v Value, key: &'static str) -> Result<&'v Value, PartError>
     ensures { (d : Data) → get key.now (view object.now) ≡ Some d →
         MatchResult result (λ v. view v.now ≡ d) (λ _. ⊥) }
@@ -79,7 +79,8 @@ fn field<'v>(object: &'v Value, key: &'static str) -> Result<&'v Value, PartErro
     }
 }
 
-// The level that the object of a part tells: what was found at its bound.
+// The level that the JSON object of a part has: the bound, what was found at it, and why the search
+// was cut short there, if it was. An error where a key is missing or its value is wrong.
 fn level_of(alloc: Global, object: &Value) -> Result<Level, PartError>
     ensures { (l : Level) → IsLevel l → HasLevel l (view object.now) →
         MatchResult result (λ found. found ≡ l) (λ e. e ≡ OutOfMemory) }
@@ -91,7 +92,8 @@ fn level_of(alloc: Global, object: &Value) -> Result<Level, PartError>
     })
 }
 
-// The summary that the object of a part tells; `Inconsistent` where its values make none.
+// The summary that the JSON object of a part has; `Inconsistent` where the counts, the ends and the
+// first bad schedule don't fit one another.
 fn summary_of(alloc: Global, object: &Value) -> Result<Summary, PartError>
     ensures { (l : Level) → IsLevel l → HasLevel l (view object.now) →
         MatchResult result (λ s. s ≡ l.summary) (λ e. e ≡ OutOfMemory) }
@@ -110,7 +112,7 @@ fn summary_of(alloc: Global, object: &Value) -> Result<Summary, PartError>
     }
 }
 
-// The count that the value of this key is; `Wrong` where it is none.
+// The value of this key as a count; `Wrong` where it is no number from 0 that 64 bits hold.
 fn count_of(value: &Value, key: &'static str) -> Result<u64, PartError>
     ensures { (n : ℕ) → view value.now ≡ count_data n →
         MatchResult result (λ m. m ≡ n) (λ _. ⊥) }
@@ -124,7 +126,7 @@ fn count_of(value: &Value, key: &'static str) -> Result<u64, PartError>
     }
 }
 
-// The truth value that the value of this key is; `Wrong` where it is none.
+// The value of this key as a `bool`; `Wrong` where it is neither true nor false.
 fn bool_of(value: &Value, key: &'static str) -> Result<bool, PartError>
     ensures { (b : Bool) → view value.now ≡ boolean b →
         MatchResult result (λ c. c ≡ b) (λ _. ⊥) }
@@ -138,7 +140,8 @@ fn bool_of(value: &Value, key: &'static str) -> Result<bool, PartError>
     }
 }
 
-// The bound that the value of the key `bound` is, or none where it is null.
+// The value of the key `bound` as a bound, `None` where it is null; `Wrong` where it is neither
+// null nor a number from 0 that 32 bits hold.
 fn bound_of(value: &Value) -> Result<Option<u32>, PartError>
     ensures { (b : Option ℕ) → IfSome b (λ n. n < 2 ^ 32) → view value.now ≡ bound_data b →
         MatchResult result (λ c. c ≡ b) (λ _. ⊥) }
@@ -155,7 +158,8 @@ fn bound_of(value: &Value) -> Result<Option<u32>, PartError>
     }
 }
 
-// The cause that the value of the key `cause` is, or none where the key is missing.
+// The value of the key `cause` as a cause, `None` where the key is missing; `Wrong` where it is
+// another value than the two words for causes.
 fn cause_of(value: Option<&Value>) -> Result<Option<Cause>, PartError>
     ensures { (cause : Option Cause) →
         option_map (λ v. view v.now) value.entry ≡ option_map cause_data cause →
@@ -174,7 +178,8 @@ fn cause_of(value: Option<&Value>) -> Result<Option<Cause>, PartError>
     }
 }
 
-// The first bad schedule, which the value of the key `schedule` is, or none where it is null.
+// The value of the key `schedule` as the first bad schedule, `None` where it is null; `Wrong` where
+// it is neither null nor a schedule.
 fn first_bad_of(alloc: Global, value: &Value) -> Result<Option<Vec<u8>>, PartError>
     ensures { (w : Option (List ℕ)) → IfSome w IsSchedule → view value.now ≡ first_bad_data w →
         MatchResult result (λ v. schedule_view v ≡ w) (λ e. e ≡ OutOfMemory) }
@@ -208,7 +213,8 @@ fn schedule_of(alloc: Global, value: &Value, key: &'static str) -> Result<Vec<u8
     }
 }
 
-// The end views that the value of the key `ends` lists.
+// The value of the key `ends` as a list of end views; `Wrong` where it is no list, and an error
+// where an element is no end view.
 fn ends_of(alloc: Global, value: &Value) -> Result<Vec<EndView>, PartError>
     ensures { (views : List View) → All (λ v. All (FitsSigned w64) v.vars) views →
         view value.now ≡ ends_data views →
@@ -227,7 +233,8 @@ fn ends_of(alloc: Global, value: &Value) -> Result<Vec<EndView>, PartError>
     Ok(ends)
 }
 
-// The end view that an element of the list of ends is.
+// An element of the list of ends as an end view: its `kind` and its `vars`. An error where one is
+// missing or wrong.
 fn end_of(alloc: Global, value: &Value) -> Result<EndView, PartError>
     ensures { (v : View) → All (FitsSigned w64) v.vars → view value.now ≡ end_data v →
         MatchResult result (λ end. end ≡ v) (λ e. e ≡ OutOfMemory) }
@@ -237,7 +244,8 @@ fn end_of(alloc: Global, value: &Value) -> Result<EndView, PartError>
     Ok(EndView::new(kind, vars))
 }
 
-// How a schedule ends, which the value of the key `kind` of an end view says.
+// The value of the key `kind` of an end view, as how a schedule ends; `Wrong` where it is none of
+// the three words for that.
 fn kind_of(value: &Value) -> Result<Kind, PartError>
     ensures { (kind : Kind) → view value.now ≡ kind_data kind →
         MatchResult result (λ found. found ≡ kind) (λ _. ⊥) }
@@ -253,7 +261,8 @@ fn kind_of(value: &Value) -> Result<Kind, PartError>
     }
 }
 
-// The values of the variables, which the value of the key `vars` of an end view lists.
+// The value of the key `vars` of an end view, as the values of the variables; `Wrong` where it is
+// no list of numbers that signed 64 bits hold.
 fn values_of(alloc: Global, value: &Value) -> Result<Vec<i64>, PartError>
     ensures { (zs : List ℤ) → All (FitsSigned w64) zs → view value.now ≡ values_data zs →
         MatchResult result (λ values. values.items ≡ zs) (λ e. e ≡ OutOfMemory) }
@@ -275,7 +284,8 @@ fn values_of(alloc: Global, value: &Value) -> Result<Vec<i64>, PartError>
     Ok(values)
 }
 
-// The length and the digest of a guest's text, which the value of the key `guest` has.
+// The value of the key `guest` as the length and the digest of a guest's text; an error where a key
+// is missing or its value is wrong.
 fn guest_of(value: &Value) -> Result<GuestDigest, PartError>
     ensures { (g : GuestDigest) → IsGuest g → view value.now ≡ guest_data g →
         MatchResult result (λ found. found ≡ g) (λ _. ⊥) }
@@ -291,7 +301,9 @@ fn guest_of(value: &Value) -> Result<GuestDigest, PartError>
     }
 }
 
-// Checks that JSON is what is printed of the part that was read from it, but for the blanks.
+// Checks that printing a part that was read from this JSON gives the same JSON again, but for
+// blanks and the order of keys; `NotPrinted` where it doesn't: where there is a key more, or a
+// value is spelled in another way.
 fn check_printed(alloc: Global, value: &Value, part: &Part) -> Result<(), PartError>
     requires { depth (view value.now) ≤ max_depth }
     ensures same { OnOk result (view value.now ≡ part_data (part_view part.now)) }

@@ -5,13 +5,13 @@ ghost use Rattle.prefix_list.specs.PrefixLists.{common_length};
 
 use std::alloc::AllocError;
 
-// Whether two prefixes have the same eight steps from a place on.
+// Whether two prefixes have the same eight steps from the place `at` on.
 fn has_same_eight(a: &[u8], b: &[u8], at: usize) -> bool
     requires in_a { at + 8 ≤ length a.now }
     requires in_b { at + 8 ≤ length b.now }
     ensures { IsTrue result → take 8 (drop at a.now) ≡ take 8 (drop at b.now) }
 {
-    number(a, at) == number(b, at)
+    read_number(a, at) == read_number(b, at)
 }
 
 // A number of steps that two prefixes begin with alike, found eight by eight.
@@ -43,7 +43,7 @@ pub fn shared_len(a: &[u8], b: &[u8]) -> usize
     n
 }
 
-// Puts bytes after the others, where there is room.
+// Appends bytes to `bytes`, which has room for them.
 #[inline(always)]
 pub fn put_reserved(bytes: &mut Vec<u8>, more: &[u8])
     requires { vec_len bytes.old + length more.now ≤ vec_capacity bytes.old }
@@ -55,7 +55,7 @@ pub fn put_reserved(bytes: &mut Vec<u8>, more: &[u8])
     }
 }
 
-// Puts bytes after the others: a few one by one, which takes less than one call for all.
+// Appends bytes to `bytes`: a few one by one, which takes less than one call for all.
 #[inline(always)]
 pub fn put_few(bytes: &mut Vec<u8>, more: &[u8]) -> Result<(), AllocError>
     ensures items { OnOk result (bytes.new.items ≡ bytes.old.items ++ more.now) }
@@ -71,10 +71,10 @@ pub fn put_few(bytes: &mut Vec<u8>, more: &[u8]) -> Result<(), AllocError>
     Ok(())
 }
 
-// Whether a prefix that shares its first steps with the last one, this many, and goes on with the rest is
-// put after it by a short way back, and there is room for both.
+// Whether the way back is short from a prefix, made of `shared` steps of the `last` one and the
+// `rest`, to the last one, and there is room for the prefix and for the way.
 #[inline(always)]
-pub fn is_short(bytes: &Vec<u8>, last: &Vec<u8>, shared: usize, rest: &[u8]) -> bool
+pub fn has_short_way(bytes: &Vec<u8>, last: &Vec<u8>, shared: usize, rest: &[u8]) -> bool
     ensures shared { IsTrue result → shared ≤ vec_len last.now }
     ensures tail { IsTrue result → vec_len last.now < shared + 16 }
     ensures rest { IsTrue result → length rest.now < 15 }
@@ -88,7 +88,7 @@ pub fn is_short(bytes: &Vec<u8>, last: &Vec<u8>, shared: usize, rest: &[u8]) -> 
         && bytes.capacity() - bytes.len() >= 16
 }
 
-// Writes a short way back after the bytes, where there is room.
+// Appends to bytes with room for it a short way back: how many steps to drop, and what to put back.
 #[inline(always)]
 pub fn put_short_way(bytes: &mut Vec<u8>, dropped: usize, tail: &[u8])
     requires dropped { dropped < 15 }
@@ -100,6 +100,7 @@ pub fn put_short_way(bytes: &mut Vec<u8>, dropped: usize, tail: &[u8])
     bytes.push_reserved((dropped * 16 + tail.len()) as u8);
 }
 
+// Appends a way back: how many steps to drop, and the tail to put back. Fails with a part written.
 fn write_way(bytes: &mut Vec<u8>, dropped: usize, tail: &[u8]) -> Result<(), AllocError>
     ensures done { OnOk result (bytes.new.items ≡ bytes.old.items ++ way_bytes dropped tail.now) }
     ensures kept { take (length bytes.old.items) bytes.new.items ≡ bytes.old.items }
@@ -117,7 +118,7 @@ fn write_way(bytes: &mut Vec<u8>, dropped: usize, tail: &[u8]) -> Result<(), All
     Ok(())
 }
 
-// Writes a way back after the bytes, or nothing where memory runs out.
+// Appends a way back: how many steps to drop, and the tail to put back; nothing if memory runs out.
 pub fn put_way(bytes: &mut Vec<u8>, dropped: usize, tail: &[u8]) -> Result<(), AllocError>
     ensures { bytes.new.items ≡ (if is_ok result then bytes.old.items
         ++ way_bytes dropped tail.now else bytes.old.items) }
@@ -132,7 +133,8 @@ pub fn put_way(bytes: &mut Vec<u8>, dropped: usize, tail: &[u8]) -> Result<(), A
     }
 }
 
-fn number(bytes: &[u8], at: usize) -> usize
+// The number that the eight bytes from the place `at` on spell, the lowest byte first.
+fn read_number(bytes: &[u8], at: usize) -> usize
     requires { at + 8 ≤ length bytes.now }
     ensures { result ≡ number_at at bytes.now }
 {
@@ -150,8 +152,8 @@ pub struct WayBack {
     pub end: usize,
 }
 
-// The last byte, which says what way is on top; 0 where there is none.
-fn head(bytes: &[u8]) -> usize
+// The last of some bytes, which says what way back is on top; 0 where there is no byte.
+fn last_byte(bytes: &[u8]) -> usize
     ensures { result ≡ head_of bytes.now }
 {
     if bytes.is_empty() {
@@ -161,9 +163,9 @@ fn head(bytes: &[u8]) -> usize
     }
 }
 
-// The way on top of some bytes.
+// The way back on top of some bytes: that which was appended last.
 #[tactic(auto, using(std::proofs::lemmas::Bool::Decides::nat_tests), unfolding(crate::specs::inner::Packed::dropped_of, crate::specs::inner::Packed::end_of, crate::specs::inner::Packed::start_of))]
-pub fn top(bytes: &[u8]) -> WayBack
+pub fn top_way(bytes: &[u8]) -> WayBack
     ensures dropped { result.dropped ≡ dropped_of bytes.now }
     ensures start { result.start ≡ start_of bytes.now }
     ensures end { result.end ≡ end_of bytes.now }
@@ -171,7 +173,7 @@ pub fn top(bytes: &[u8]) -> WayBack
     ensures within { result.end ≤ length bytes.now }
 {
     let len = bytes.len();
-    let head = head(bytes);
+    let head = last_byte(bytes);
     if head < 240 {
         let end = len.saturating_sub(1);
         return WayBack {
@@ -189,13 +191,13 @@ pub fn top(bytes: &[u8]) -> WayBack
     }
     let end = len - 17;
     WayBack {
-        dropped: number(bytes, end),
-        start: end.saturating_sub(number(bytes, len - 9)),
+        dropped: read_number(bytes, end),
+        start: end.saturating_sub(read_number(bytes, len - 9)),
         end,
     }
 }
 
-// Goes from a prefix to the one before, by the way on top of the bytes.
+// Turns the last prefix into the one before in the list, by the way back on top of `bytes`: `top`.
 pub fn step_back(bytes: &[u8], top: WayBack, last: &mut Vec<u8>) -> Result<(), AllocError>
     requires dropped { top.dropped ≡ dropped_of bytes.now }
     requires start { top.start ≡ start_of bytes.now }

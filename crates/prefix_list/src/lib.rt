@@ -6,8 +6,8 @@
 //!
 //! What is promised, for every list of prefixes:
 //!
-//! - It is the list that was put in: contracts see it as a list of lists of numbers. A prefix is put
-//!   after the others ([`Prefixes::push`], [`Prefixes::push_after`]), all of another list are
+//! - It is the list that was put in: contracts see it as a list of lists of numbers. A prefix is
+//!   put after the others ([`Prefixes::push`], [`Prefixes::push_after`]), all of another list are
 //!   ([`Prefixes::append`]), and the last are taken away ([`Prefixes::pop`],
 //!   [`Prefixes::truncate`], [`Prefixes::clear`]). Where memory runs out, it is as before.
 //! - [`Prefixes::position`] finds a prefix where it is, and none where it isn't.

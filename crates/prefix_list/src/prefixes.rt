@@ -5,17 +5,17 @@ ghost use Rattle.prefix_list.specs.inner.Packed.{AreWaysOn, WentBack};
 ghost use Rattle.prefix_list.specs.PrefixLists.{last_of};
 
 use crate::bytes::{
-    is_short, put_few, put_reserved, put_short_way, put_way, shared_len, step_back, top,
+    has_short_way, put_few, put_reserved, put_short_way, put_way, shared_len, step_back, top_way,
 };
 use crate::seeker::Seeker;
 use std::alloc::{AllocError, Global};
 use std::marker::Model;
 use std::mem;
 
-// A list begins with room for prefixes that are so much longer than the first, and for some ways
-// back, so that a short one seldom grows.
+// For how many steps more than the first prefix has a list begins with room, so it seldom grows.
 const MORE_STEPS: usize = 32;
 
+// For how many bytes of ways back a list begins with room, so that a short list seldom grows.
 const MORE_BYTES: usize = 96;
 
 /// A list of prefixes. Contracts see `List (List ℕ)`. The bytes are the first prefix, which ends at
@@ -42,7 +42,7 @@ impl Model for Prefixes {
 }
 
 impl Prefixes {
-    /// A list of none.
+    /// A list of no prefix.
     pub fn new(alloc: Global) -> Prefixes
         ensures { result ≡ [] }
     {
@@ -62,7 +62,7 @@ impl Prefixes {
         self.count
     }
 
-    /// Whether there is none.
+    /// Whether there is no prefix.
     pub fn is_empty(&self) -> bool
         ensures { result ≡ (length self.now == 0) }
     {
@@ -108,7 +108,7 @@ impl Prefixes {
         ensures { self.new ≡ take (length self.old - 1) self.old }
     {
         let ways = &self.bytes[self.front..];
-        let top = top(ways);
+        let top = top_way(ways);
         let _ = step_back(ways, top, &mut self.last);
         self.bytes.truncate(self.front + top.start);
         self.count -= 1;
@@ -130,7 +130,7 @@ impl Prefixes {
         self.count = 0;
     }
 
-    /// Puts a prefix after the others.
+    /// Appends a prefix.
     ///
     /// # Errors
     ///
@@ -139,15 +139,15 @@ impl Prefixes {
         ensures { self.new ≡ (if is_ok result then self.old ++ prefix.now ∷ [] else self.old) }
     {
         if self.count == 0 {
-            return self.start(prefix);
+            return self.push_first(prefix);
         }
         let shared = shared_len(self.last.as_slice(), prefix);
         self.push_after(shared, &prefix[shared..])
     }
 
-    /// Puts a prefix after the others that begins with the first `shared` steps of the last one,
-    /// and then goes on with the rest. It compares nothing. Mostly the way back is short, and there
-    /// is room.
+    /// Appends a prefix that begins with the first `shared` steps of the last one, and then goes on
+    /// with the rest, which is compared with nothing. Mostly the way back is short, and there is
+    /// room.
     ///
     /// # Errors
     ///
@@ -157,7 +157,7 @@ impl Prefixes {
         ensures { self.new ≡ (if is_ok result
             then self.old ++ (take shared (last_of self.old) ++ rest.now) ∷ [] else self.old) }
     {
-        if self.count != 0 && is_short(&self.bytes, &self.last, shared, rest) {
+        if self.count != 0 && has_short_way(&self.bytes, &self.last, shared, rest) {
             put_short_way(&mut self.bytes, rest.len(), &self.last[shared..]);
             self.last.truncate(shared);
             put_reserved(&mut self.last, rest);
@@ -167,14 +167,14 @@ impl Prefixes {
         self.push_long(shared, rest)
     }
 
-    // Puts a prefix after the others where the way back is long, or there is no room yet.
+    // Appends a prefix as `push_after` does, also if the way back is long or there is no room yet.
     #[inline(never)]
     fn push_long(&mut self, shared: usize, rest: &[u8]) -> Result<(), AllocError>
         ensures { self.new ≡ (if is_ok result
             then self.old ++ (take shared (last_of self.old) ++ rest.now) ∷ [] else self.old) }
     {
         if self.count == 0 {
-            return self.start(rest);
+            return self.push_first(rest);
         }
         let shared = shared.min(self.last.len());
         self.last.reserve(rest.len())?;
@@ -185,8 +185,8 @@ impl Prefixes {
         Ok(())
     }
 
-    // Puts the first prefix in.
-    fn start(&mut self, prefix: &[u8]) -> Result<(), AllocError>
+    // Puts the first prefix into an empty list.
+    fn push_first(&mut self, prefix: &[u8]) -> Result<(), AllocError>
         requires { self.old ≡ [] }
         ensures { self.new ≡ (if is_ok result then prefix.now ∷ [] else []) }
     {
@@ -201,7 +201,7 @@ impl Prefixes {
         Ok(())
     }
 
-    /// Puts copies of the prefixes of another list after these.
+    /// Appends copies of the prefixes of another list.
     ///
     /// # Errors
     ///
@@ -232,8 +232,8 @@ impl Prefixes {
         Ok(())
     }
 
-    /// Moves the last prefixes, at most `count` of them, into another list, in place of what that one
-    /// has. The memory of both lists serves both.
+    /// Moves the last prefixes, at most `count` of them, into another list, in place of what is
+    /// there. The memory of both lists serves both.
     ///
     /// # Errors
     ///
@@ -256,7 +256,7 @@ impl Prefixes {
         self.split_some(count, other)
     }
 
-    // Moves some of the last prefixes, not all, into another list.
+    // Moves the last `count` prefixes, some and not all, into another list, in place of its own.
     fn split_some(&mut self, count: usize, other: &mut Prefixes) -> Result<(), AllocError>
         requires some { 0 < count }
         requires few { count < length self.old }
@@ -285,11 +285,11 @@ impl Prefixes {
         Ok(())
     }
 
-    /// Becomes an equal list, in the memory that it has.
+    /// Makes the list equal to another one, in the memory that it has.
     ///
     /// # Errors
     ///
-    /// `AllocError` where memory runs out; it has no prefix then.
+    /// `AllocError` where memory runs out; the list then has no prefix.
     pub fn copy_from(&mut self, other: &Prefixes) -> Result<(), AllocError>
         ensures { self.new ≡ (if is_ok result then other.now else []) }
     {
@@ -305,18 +305,18 @@ impl Prefixes {
         Ok(())
     }
 
-    /// Whether another list has the same bytes. Then it has the same prefixes; two lists of the same
-    /// prefixes may have other bytes.
+    /// Whether another list has the same bytes. Then it has the same prefixes; two lists of the
+    /// same prefixes may have other bytes.
     pub fn has_same_bytes(&self, other: &Prefixes) -> bool
         ensures { IsTrue result → self.now ≡ other.now }
     {
         self.count == other.count
             && self.front == other.front
-            && same_bytes(self.last.as_slice(), other.last.as_slice())
-            && same_bytes(self.bytes.as_slice(), other.bytes.as_slice())
+            && is_equal(self.last.as_slice(), other.last.as_slice())
+            && is_equal(self.bytes.as_slice(), other.bytes.as_slice())
     }
 
-    /// An equal list.
+    /// A list of the same prefixes, in memory of its own.
     ///
     /// # Errors
     ///
@@ -352,7 +352,7 @@ impl Prefixes {
     }
 }
 
-// Goes back from the last prefix by this many ways, and answers where those end that are left.
+// Goes back from the last prefix by `count` ways, and answers where the ways end that are left.
 fn go_back(ways: &[u8], count: usize, last: &mut Vec<u8>) -> usize
     requires { AreWaysOn ways.now count last.old.items (vec_capacity last.old) }
     ensures back { (w : AreWaysOn ways.now count last.old.items (vec_capacity last.old)) →
@@ -362,14 +362,14 @@ fn go_back(ways: &[u8], count: usize, last: &mut Vec<u8>) -> usize
 {
     let mut at = ways.len();
     for _ in 0..count {
-        let top = top(&ways[..at]);
+        let top = top_way(&ways[..at]);
         let _ = step_back(&ways[..at], top, last);
         at = top.start;
     }
     at
 }
 
-// Writes a first prefix and the ways back to it in place of some bytes.
+// Writes a first prefix and the ways back to it in place of what is in `bytes`.
 //
 // # Errors
 //
@@ -382,8 +382,8 @@ fn put_first(bytes: &mut Vec<u8>, first: &[u8], ways: &[u8]) -> Result<(), Alloc
     bytes.extend_from_slice(ways)
 }
 
-// Whether the bytes are the same.
-fn same_bytes(first: &[u8], second: &[u8]) -> bool
+// Whether two slices have the same bytes.
+fn is_equal(first: &[u8], second: &[u8]) -> bool
     ensures { IsTrue result ↔ (first.now ≡ second.now) }
 {
     first == second
@@ -422,14 +422,14 @@ impl<'a> Model for LastFirst<'a> {
 }
 
 impl<'a> LastFirst<'a> {
-    /// How many are still to be read.
+    /// How many prefixes are still to be read.
     pub fn len(&self) -> usize
         ensures { result ≡ length self.now }
     {
         self.count
     }
 
-    /// The last of those that are still to be read.
+    /// The last of the prefixes that are still to be read.
     pub fn prefix(&self) -> Option<&[u8]>
         ensures { option_copied result ≡ slice_get self.now (length self.now - 1) }
     {
@@ -440,12 +440,12 @@ impl<'a> LastFirst<'a> {
         }
     }
 
-    /// Goes on to the one before. It takes no memory.
+    /// Goes on to the prefix before. It takes no memory.
     pub fn advance(&mut self)
         requires { 0 < length self.old }
         ensures { self.new ≡ take (length self.old - 1) self.old }
     {
-        let top = top(self.bytes);
+        let top = top_way(self.bytes);
         let _ = step_back(self.bytes, top, &mut self.last);
         self.bytes = &self.bytes[..top.start];
         self.count -= 1;

@@ -3,7 +3,7 @@ ghost use Rattle.std.specs.Prelude.{◌≡◌, ℕ, ◌+◌, ◌-◌, ◌^◌, �
 ghost use Rattle.prefix_list.specs.inner.Packed.{dropped_of, start_of, end_of, before, below_of};
 ghost use Rattle.prefix_list.specs.PrefixLists.{common_length};
 
-use crate::bytes::{shared_len, top};
+use crate::bytes::{shared_len, top_way};
 
 // Where a search stands. It takes no memory: of the prefix there it knows how many steps it has,
 // and how many of them are those that the wanted one begins with.
@@ -15,7 +15,7 @@ pub struct Seeker<'a> {
 }
 
 impl<'a> Seeker<'a> {
-    // Whether the prefix is the wanted one.
+    // Whether the prefix at which the search stands is the wanted one.
     pub fn has_found(&self, wanted: &[u8]) -> bool
         ensures { IsTrue result ↔ ((self.now.shared ≡ self.now.steps)
             × (self.now.steps ≡ length wanted.now)) }
@@ -36,7 +36,7 @@ impl<'a> Seeker<'a> {
             result.shared ≡ common_length (before self.now.bytes.now last) wanted.now }
         ensures within { result.shared ≤ length wanted.now }
     {
-        let top = top(self.bytes);
+        let top = top_way(self.bytes);
         let bytes = &self.bytes[..top.start];
         let kept = self.steps.saturating_sub(top.dropped);
         let tail = &self.bytes[top.start..top.end];

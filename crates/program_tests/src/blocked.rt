@@ -1,5 +1,5 @@
-//! Who could end each wait, in guests that were worked out by hand: a line for each thread that waits,
-//! with the statements that could end its wait as THREAD@INSTRUCTION, and a last line of the circles.
+//! Who could end each wait, in guests worked out by hand: a line for each thread that waits, with
+//! the statements that could end its wait as THREAD@INSTRUCTION, and a last line of the circles.
 
 use explain::Explanation;
 use guest_code::lowering::lower;
@@ -203,8 +203,8 @@ fn two_that_would_broadcast_wait_for_each_other(rt: HostRuntime) -> Result<(), F
     Ok(())
 }
 
-// A semaphore of a library that loses a release: each thread that could wake the second one has passed
-// that by.
+// A semaphore of a library that loses a release: each thread that could wake the second one has
+// passed that by.
 const LOST_RELEASE: &[u8] = b"var permits; var head; var ws_0 = 1; var ws_1 = 1;
 sem park_1 = 0; sem park_2 = 0;
 thread Acquire1 {

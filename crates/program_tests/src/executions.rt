@@ -186,8 +186,8 @@ const PAIRS: [(&[u8], bool); 14] = [
     ),
 ];
 
-// Whether the opening steps of two threads are independent; none where the answer is another for the
-// other order of the two, or for whether the first sleeps after the second's step.
+// Whether the opening steps of two threads are independent; none where the answer is another for
+// the other order of the two, or for whether the first sleeps after the second's step.
 fn pair_independence(alloc: Global, p: &Program) -> Result<Option<bool>, AllocError>
     requires { 2 ≤ length p.now.threads }
 {

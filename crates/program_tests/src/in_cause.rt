@@ -1,5 +1,5 @@
-//! Which steps are in the cause of how a run ended: worked out by hand for each guest, by going back
-//! from its end.
+//! Which steps are in the cause of how a run ended: worked out by hand for each guest, by going
+//! back from its end.
 
 use causes::Causes;
 use explain::Explanation;

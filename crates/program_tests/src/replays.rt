@@ -148,7 +148,7 @@ fn reads_schedules_that_are_not_written(rt: HostRuntime) -> Result<(), Fail> {
     Ok(())
 }
 
-/// Where the first piece of a text is that is no piece of a schedule, if that is wrong with the text.
+/// Where a text's first piece is that is no piece of a schedule, if that is wrong with the text.
 fn bad_at(alloc: Global, text: &[u8]) -> Option<usize> {
     match schedule_from(alloc, text) {
         Err(ScheduleError::BadSchedule(at)) => Some(at),
@@ -163,7 +163,7 @@ fn names_the_first_piece_that_is_none(rt: HostRuntime) {
     }
 }
 
-/// Where the piece of a text is with which its schedule is too long, if that is wrong with the text.
+/// Where the piece of a text is by which its schedule is too long, if that is wrong with the text.
 fn too_long_at(alloc: Global, text: &[u8]) -> Option<usize> {
     match schedule_from(alloc, text) {
         Err(ScheduleError::TooLong(at)) => Some(at),

@@ -12,7 +12,7 @@ ghost use Rattle.replay.specs.declared.piece.TheConstants.{NUMBERS};
 ghost use Rattle.replay.specs.declared.schedule.TheConstants.{PLACES};
 ghost use Rattle.replay.specs.declared.error.ScheduleError.{ScheduleError};
 
-/// A schedule that has a first bad place doesn't run, and has no other. So `replay` answers a
+/// A schedule that has a first bad place doesn't run, and has only one. So `replay` answers a
 /// schedule that runs by its run, and any other by its first bad place, unless memory runs out.
 pub fn one_place_is_the_first_bad()
     ensures fails { (p : Program) (w : List ℕ) (k : ℕ) →

@@ -10,7 +10,7 @@ use std::alloc::{AllocError, Global};
 /// How many numbers a schedule's text may name: 0 to 255.
 pub const NUMBERS: usize = 256;
 
-/// The one number that begins with a zero.
+/// The text of the one number that begins with a zero.
 const ZERO: &[u8] = b"0";
 
 /// A number of steps of a thread, one after the other.
@@ -31,7 +31,7 @@ impl Piece {
     }
 }
 
-/// The piece that a text spells; a count above `usize::MAX` is answered as that.
+/// The piece that a text spells, if any; a count above `usize::MAX` is answered as `usize::MAX`.
 pub fn piece_of(text: &[u8]) -> Option<Piece>
     ensures { MatchOption result (¬ (IsPiece text.now)) (IsHeldAs text.now) }
 {
@@ -44,7 +44,7 @@ pub fn piece_of(text: &[u8]) -> Option<Piece>
     })
 }
 
-// Where the first `x` is.
+// The index of the first `x` in a text.
 fn first_x(text: &[u8]) -> Option<usize>
     ensures { result ≡ position (λ b. b == 120) text.now }
 {
@@ -66,7 +66,7 @@ fn number_of(text: &[u8]) -> Option<u8>
     }
 }
 
-// The count that the text is in decimal; one above `usize::MAX` is answered as that.
+// The count that the text is in decimal; one above `usize::MAX` is answered as `usize::MAX`.
 fn count_of(text: &[u8]) -> Option<usize>
     ensures { MatchOption result ((n : ℕ) → ¬ (SpellsCount text.now n))
         (λ held. (n : ℕ) × SpellsCount text.now n × (held ≡ min n (2 ^ 64 - 1))) }
@@ -87,7 +87,7 @@ fn is_count(text: &[u8]) -> bool
     !text.is_empty() && text[0] != b'0' && text.iter().all(|b| b.is_ascii_digit())
 }
 
-/// Writes a piece: a single step as its thread's number alone.
+/// Appends a piece to a text: a single step as its thread's number alone.
 pub fn put_piece(text: &mut Vec<u8>, alloc: Global, piece: Piece) -> Result<(), AllocError>
     ensures { OnOk result (text.new.items ≡ text.old.items ++ piece_text piece) }
 {
@@ -99,7 +99,7 @@ pub fn put_piece(text: &mut Vec<u8>, alloc: Global, piece: Piece) -> Result<(), 
     Ok(())
 }
 
-/// Writes the steps of a piece.
+/// Appends the steps of a piece to a schedule.
 pub fn put_steps(schedule: &mut Vec<u8>, piece: Piece) -> Result<(), AllocError>
     ensures { OnOk result
         (schedule.new.items ≡ schedule.old.items ++ replicate piece.count piece.thread) }

@@ -48,15 +48,15 @@ pub enum Act {
     },
     /// The mutex was taken.
     Lock(usize),
-    /// The mutex was given back, or the thread stopped, since it didn't own it.
+    /// The mutex was given back, or the thread stopped, since it didn't own the mutex.
     Unlock(usize),
-    /// The first step of a `wait`: the thread gives the mutex back and waits, or it stopped, since
-    /// it didn't own it.
+    /// The first step of a `wait`: the thread gave the mutex back and waits, or it stopped, since
+    /// it didn't own the mutex.
     Wait {
         condition: usize,
         mutex: usize,
     },
-    /// The second step of a `wait`: the thread takes the mutex again.
+    /// The second step of a `wait`: the thread took the mutex again.
     Retake(usize),
     /// The thread that waited longest was woken, if one waited.
     Signal(usize),
@@ -64,7 +64,7 @@ pub enum Act {
     Broadcast(usize),
     /// The count fell by 1.
     Acquire(usize),
-    /// The count rose by 1, or the thread stopped, since it was at its limit.
+    /// The count rose by 1, or the thread stopped, since the count was at its limit.
     Release(usize),
 }
 
@@ -73,7 +73,7 @@ pub enum Act {
 pub struct Line {
     /// The thread, by its number.
     pub thread: u8,
-    /// What it did.
+    /// What the thread did.
     pub act: Act,
     /// Whether the switch to this step was preempting: another thread took the step before it, and
     /// is still enabled.
@@ -82,7 +82,7 @@ pub struct Line {
     pub stop: Option<Stop>,
 }
 
-/// The run of a schedule.
+/// The run of a schedule: what each step did, and where the last one led.
 #[derive(Debug, Drop)]
 pub struct Run {
     stopped: Vec<u8>,
@@ -121,7 +121,7 @@ impl Run {
         self.lines.as_slice()
     }
 
-    /// How many of its switches were preempting.
+    /// How many switches of the schedule were preempting.
     pub fn preemptions(&self) -> usize
         ensures { result ≡ self.now.preemptions }
     {
@@ -170,7 +170,7 @@ pub fn replay(alloc: Global, program: &Program, schedule: &[u8]) -> Result<Run, 
     })
 }
 
-// The threads that have stopped, rising.
+// The threads that have stopped in a state, in rising order.
 fn stopped_threads(alloc: Global, program: &Program, state: &State) -> Result<Vec<u8>, AllocError>
     requires { IsOf program.now state.now }
     ensures value { IfOk result (λ v. v.items ≡ stopped_in state.now) }
@@ -244,7 +244,7 @@ pub fn act_of(state: &State, program: &Program, thread: u8, action: Action) -> A
     }
 }
 
-// What a thread is about to do with a variable.
+// What a thread is about to do with a variable, with the values that are read and stored.
 fn act_on_variable(state: &State, thread: u8, variable: usize, action: VariableAction) -> Act
     requires thread { thread < length state.now.threads }
     requires variable { variable < length state.now.vars }

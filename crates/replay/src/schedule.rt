@@ -15,7 +15,7 @@ use std::alloc::{AllocError, Global};
 /// The most places of a schedule that is read from a text: the limit of steps.
 pub const PLACES: usize = STEPS;
 
-/// The empty schedule.
+/// The text of the empty schedule.
 const EMPTY: &[u8] = b"-";
 
 /// The printed spelling of a schedule: its longest runs, a run of one step as the number alone.
@@ -57,7 +57,7 @@ pub fn schedule_from(alloc: Global, text: &[u8]) -> Result<Vec<u8>, ScheduleErro
         (λ w. Spells text.now w.items) (ScheduleErrorMeans text.now) }
     ensures short { IfOk result (λ w. length w.items ≤ PLACES) }
 {
-    if is_empty(text) {
+    if is_empty_schedule(text) {
         return Ok(Vec::new(alloc));
     }
     check_pieces(text)?;
@@ -98,8 +98,8 @@ fn steps_of_pieces(alloc: Global, text: &[u8]) -> Result<Vec<u8>, AllocError>
     Ok(schedule)
 }
 
-// Whether the text is that of the empty schedule.
-fn is_empty(text: &[u8]) -> bool
+// Whether a text is that of the empty schedule.
+fn is_empty_schedule(text: &[u8]) -> bool
     ensures { result ≡ bytes_eq text.now (codes "-") }
 {
     text == EMPTY

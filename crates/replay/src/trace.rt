@@ -35,7 +35,7 @@ pub fn trace_text(alloc: Global, program: &Program, run: &Run) -> Result<Vec<u8>
     Ok(text)
 }
 
-// A line for each thread that stopped at the start.
+// Writes a line for each thread that stopped at the start.
 fn put_starts(text: &mut Vec<u8>, program: &Program, stopped: &[u8]) -> Result<(), AllocError>
     requires { All (λ t. t < length program.now.threads) stopped.now }
     ensures { OnOk result
@@ -47,7 +47,7 @@ fn put_starts(text: &mut Vec<u8>, program: &Program, stopped: &[u8]) -> Result<(
     Ok(())
 }
 
-// A line for each step.
+// Writes a line for each step.
 fn put_steps(
     text: &mut Vec<u8>,
     alloc: Global,
@@ -64,7 +64,7 @@ fn put_steps(
     Ok(())
 }
 
-// The line of the step at place k.
+// Writes the line of the step at place k of the schedule.
 fn put_step(
     text: &mut Vec<u8>,
     alloc: Global,
@@ -87,45 +87,45 @@ fn put_step(
     Ok(())
 }
 
-// What a step did.
+// Writes what a step did.
 fn put_act(text: &mut Vec<u8>, alloc: Global, program: &Program, act: Act) -> Result<(), AllocError>
     requires { IsValidAct program.now act }
     ensures { OnOk result (text.new.items ≡ text.old.items ++ act_text program.now act) }
 {
     match act {
         Act::Load { variable, value } => {
-            put(text, b"load ", program.variable_name(variable))?;
+            put_name(text, b"load ", program.variable_name(variable))?;
             put_value(text, alloc, b" ", value)
         }
         Act::Store { variable, value } => {
-            put(text, b"store ", program.variable_name(variable))?;
+            put_name(text, b"store ", program.variable_name(variable))?;
             put_value(text, alloc, b" ", value)
         }
         Act::Add { variable, old, new } => {
-            put(text, b"add ", program.variable_name(variable))?;
+            put_name(text, b"add ", program.variable_name(variable))?;
             put_value(text, alloc, b" ", old)?;
             put_value(text, alloc, b" ", new)
         }
         Act::Cas { variable, old, hit } => {
-            put(text, b"cas ", program.variable_name(variable))?;
+            put_name(text, b"cas ", program.variable_name(variable))?;
             put_value(text, alloc, b" ", old)?;
             put_hit(text, alloc, hit)
         }
-        Act::Lock(m) => put(text, b"lock ", program.mutex_name(m)),
-        Act::Unlock(m) => put(text, b"unlock ", program.mutex_name(m)),
+        Act::Lock(m) => put_name(text, b"lock ", program.mutex_name(m)),
+        Act::Unlock(m) => put_name(text, b"unlock ", program.mutex_name(m)),
         Act::Wait { condition, mutex } => {
-            put(text, b"wait ", program.condition_name(condition))?;
-            put(text, b" ", program.mutex_name(mutex))
+            put_name(text, b"wait ", program.condition_name(condition))?;
+            put_name(text, b" ", program.mutex_name(mutex))
         }
-        Act::Retake(m) => put(text, b"retake ", program.mutex_name(m)),
-        Act::Signal(c) => put(text, b"signal ", program.condition_name(c)),
-        Act::Broadcast(c) => put(text, b"broadcast ", program.condition_name(c)),
-        Act::Acquire(k) => put(text, b"acquire ", program.semaphore_name(k)),
-        Act::Release(k) => put(text, b"release ", program.semaphore_name(k)),
+        Act::Retake(m) => put_name(text, b"retake ", program.mutex_name(m)),
+        Act::Signal(c) => put_name(text, b"signal ", program.condition_name(c)),
+        Act::Broadcast(c) => put_name(text, b"broadcast ", program.condition_name(c)),
+        Act::Acquire(k) => put_name(text, b"acquire ", program.semaphore_name(k)),
+        Act::Release(k) => put_name(text, b"release ", program.semaphore_name(k)),
     }
 }
 
-// Whether a `cas` hit, and the value that it then stored.
+// Writes whether a `cas` hit, and the value that a hit stored.
 fn put_hit(text: &mut Vec<u8>, alloc: Global, hit: Option<i64>) -> Result<(), AllocError>
     ensures { OnOk result (text.new.items ≡ text.old.items ++ hit_text hit) }
 {
@@ -135,7 +135,7 @@ fn put_hit(text: &mut Vec<u8>, alloc: Global, hit: Option<i64>) -> Result<(), Al
     }
 }
 
-// The three lines at the end.
+// Writes the three lines at the end of a trace.
 fn put_end(
     text: &mut Vec<u8>,
     alloc: Global,
@@ -152,7 +152,7 @@ fn put_end(
     Ok(())
 }
 
-// The values of the variables, each after the variable's name.
+// Writes the values of the variables, each after the variable's name.
 fn put_values(
     text: &mut Vec<u8>,
     alloc: Global,
@@ -164,20 +164,20 @@ fn put_values(
         (text.new.items ≡ text.old.items ++ values_text program.now 0 values.now) }
 {
     for (x, value) in values.iter().enumerate() {
-        put(text, b" ", program.variable_name(x))?;
+        put_name(text, b" ", program.variable_name(x))?;
         put_value(text, alloc, b"=", *value)?;
     }
     Ok(())
 }
 
-// A word and a value.
+// Writes a word and a value.
 fn put_value(text: &mut Vec<u8>, alloc: Global, word: &[u8], value: i64) -> Result<(), AllocError>
     ensures { OnOk result (text.new.items ≡ text.old.items ++ (word.now ++ signed_decimal value)) }
 {
-    put(text, word, value.to_string(alloc)?.as_bytes())
+    put_name(text, word, value.to_string(alloc)?.as_bytes())
 }
 
-// A word and a number.
+// Writes a word and a number.
 fn put_number(
     text: &mut Vec<u8>,
     alloc: Global,
@@ -186,10 +186,10 @@ fn put_number(
 ) -> Result<(), AllocError>
     ensures { OnOk result (text.new.items ≡ text.old.items ++ (word.now ++ decimal number)) }
 {
-    put(text, word, number.to_string(alloc)?.as_bytes())
+    put_name(text, word, number.to_string(alloc)?.as_bytes())
 }
 
-// Three words.
+// Writes three words.
 fn put_words(
     text: &mut Vec<u8>,
     first: &[u8],
@@ -199,26 +199,26 @@ fn put_words(
     ensures { OnOk result
         (text.new.items ≡ text.old.items ++ (first.now ++ second.now ++ third.now)) }
 {
-    put(text, first, second)?;
+    put_name(text, first, second)?;
     text.extend_from_slice(third)
 }
 
-// A word and a name.
-fn put(text: &mut Vec<u8>, word: &[u8], name: &[u8]) -> Result<(), AllocError>
+// Writes a word and a name, or the digits of a number.
+fn put_name(text: &mut Vec<u8>, word: &[u8], name: &[u8]) -> Result<(), AllocError>
     ensures { OnOk result (text.new.items ≡ text.old.items ++ (word.now ++ name.now)) }
 {
     text.extend_from_slice(word)?;
     text.extend_from_slice(name)
 }
 
-// The mark of a preempting switch.
+// The mark of a preempting switch; no text for another switch.
 fn preempt_text(preempting: bool) -> &'static [u8]
     ensures { result.now ≡ preempt_text preempting }
 {
     if preempting { b" preempt" } else { b"" }
 }
 
-// Why the thread stopped, if it did.
+// Why a thread stopped; no text where it didn't.
 fn stop_text(stop: Option<Stop>) -> &'static [u8]
     ensures { result.now ≡ stop_text stop }
 {
@@ -230,7 +230,7 @@ fn stop_text(stop: Option<Stop>) -> &'static [u8]
     }
 }
 
-// The word of a kind.
+// The word of a kind; `none` where the schedule isn't complete.
 fn kind_text(kind: Option<Kind>) -> &'static [u8]
     ensures { result.now ≡ kind_text kind }
 {

@@ -3,8 +3,8 @@
 use crate::report::Cause;
 use summary::Summary;
 
-/// What a search found at one bound: all that is there, or with a cause what was tried when it was
-/// cut short.
+/// What a search found at one bound: all that is there, or with a cause what was tried before the
+/// search was cut short.
 #[derive(Drop)]
 pub struct Level {
     /// The bound; `None` where the search is unbounded.

@@ -4,7 +4,7 @@
 //! - [`Report`] is what it found. What a report means of all complete schedules of its program is
 //!   defined in `specs/Promises.antt`; the searches promise it.
 //! - [`Level`] is what a search found at one bound.
-//! - [`ExploreError`] is why there is none.
+//! - [`ExploreError`] is why there is no report.
 //! - [`report_text`] prints a report: its text is the defined one, byte for byte. Beside it are the
 //!   values of which its object is made.
 #![tactic(auto)]

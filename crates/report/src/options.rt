@@ -25,20 +25,20 @@ pub enum Search {
 /// What a search is asked for.
 #[derive(Clone, Copy, Debug, PartialEq, Eq)]
 pub struct Options {
-    /// How far it goes.
+    /// How far the search goes.
     pub search: Search,
     /// After a round by which this many schedules were tried, the search is cut short, unless
     /// it has its answer.
     pub limit: Option<u64>,
-    /// How many complete schedules one walk tries at most; at least 1. It changes no Clean or Bad
-    /// report but a quick one's summary.
+    /// How many complete schedules one walk tries at most; at least 1. A quota changes no Clean or
+    /// Bad report but a quick one's summary.
     pub quota: u32,
-    /// Leave out what can't hold the first bad schedule any more.
+    /// Whether to leave out what can't hold the first bad schedule any more.
     pub quick: bool,
 }
 
 impl Options {
-    /// A search as far as this, with the usual quota, without a limit, and not a quick one.
+    /// Options for a search as far as this, with the quota `QUOTA`, no limit, and not a quick one.
     pub fn new(search: Search) -> Options
         ensures { result ≡
             record { search = search; limit = None; quota = QUOTA; quick = false } }

@@ -48,7 +48,7 @@ pub fn report_value(alloc: Global, report: &Report) -> Result<Value, AllocError>
     Ok(Value::Object(members))
 }
 
-// The members of every report.
+// Puts in the members that every report has.
 fn put_common(
     members: &mut Map<String, Value>,
     alloc: Global,
@@ -66,7 +66,7 @@ fn put_common(
     Ok(())
 }
 
-// The members of a verdict.
+// Puts in the members that a report has by its verdict.
 fn put_verdict(
     members: &mut Map<String, Value>,
     alloc: Global,
@@ -89,7 +89,7 @@ fn put_verdict(
     }
 }
 
-// The members of a clean report.
+// Puts in the members of a clean verdict.
 fn put_clean(members: &mut Map<String, Value>, alloc: Global, all: bool) -> Result<(), AllocError>
     ensures { OnOk result (members_view members.new.entries
         ≡ with_members (clean_members all) (members_view members.old.entries)) }
@@ -104,7 +104,7 @@ fn put_clean(members: &mut Map<String, Value>, alloc: Global, all: bool) -> Resu
     Ok(())
 }
 
-// The members of a bad report.
+// Puts in the members of a bad verdict.
 fn put_bad(
     members: &mut Map<String, Value>,
     alloc: Global,
@@ -127,7 +127,7 @@ fn put_bad(
     Ok(())
 }
 
-// The members of an incomplete report.
+// Puts in the members of an incomplete verdict.
 fn put_incomplete(
     members: &mut Map<String, Value>,
     alloc: Global,
@@ -151,7 +151,7 @@ fn put_incomplete(
     Ok(())
 }
 
-/// A bound, or null where there is none.
+/// A bound as a number, or null where there is none.
 pub fn bound_value(bound: Option<u32>) -> Value
     ensures { view result ≡ bound_data bound }
 {
@@ -161,6 +161,7 @@ pub fn bound_value(bound: Option<u32>) -> Value
     }
 }
 
+// How a schedule ends, in a word.
 fn kind_value(alloc: Global, kind: Kind) -> Result<Value, AllocError>
     ensures { IfOk result (λ v. view v ≡ kind_data kind) }
 {
@@ -214,7 +215,7 @@ pub fn first_bad_value(alloc: Global, summary: &Summary) -> Result<Value, AllocE
     }
 }
 
-/// The end views of a summary.
+/// The array of the end views of a summary.
 ///
 /// # Errors
 ///
@@ -229,7 +230,7 @@ pub fn ends_value(alloc: Global, summary: &Summary) -> Result<Value, AllocError>
     Ok(Value::Array(ends))
 }
 
-// An end view.
+// The object of an end view.
 fn end_value(alloc: Global, end: &EndView) -> Result<Value, AllocError>
     ensures { IfOk result (λ v. view v ≡ end_data end.now) }
 {
@@ -244,7 +245,7 @@ fn end_value(alloc: Global, end: &EndView) -> Result<Value, AllocError>
     Ok(Value::Object(members))
 }
 
-// The values of the variables.
+// The array of the values of the variables.
 fn values_value(alloc: Global, values: &[i64]) -> Result<Value, AllocError>
     ensures { IfOk result (λ v. view v ≡ values_data values.now) }
 {

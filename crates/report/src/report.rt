@@ -11,7 +11,7 @@ use summary::Summary;
 pub enum Cause {
     /// As many schedules as the limit were tried.
     Limit,
-    /// A gate stopped it.
+    /// A gate stopped the search.
     Stopped,
 }
 
@@ -27,16 +27,16 @@ pub enum Verdict {
     /// A schedule is bad. In a bounded search it is the first, by thread numbers place by place,
     /// of those with fewest preemptions; else the first of all.
     Bad {
-        /// Its preempting switches.
+        /// How many preempting switches the schedule has.
         preemptions: u32,
-        /// The threads that take its steps, by their numbers.
+        /// The threads that take the steps, one after the other, by their numbers.
         schedule: Vec<u8>,
-        /// How it ends: failed or stuck.
+        /// How the schedule ends: failed or stuck.
         kind: Kind,
     },
     /// The search was cut short.
     Incomplete {
-        /// Why.
+        /// Why the search was cut short.
         cause: Cause,
         /// The last bound that was finished, and has no bad schedule; `None` where there is none
         /// or the search is unbounded.
@@ -59,7 +59,7 @@ pub struct Report {
 }
 
 impl Report {
-    /// The schedule that its text names, if any: the bad one, or where the search was cut short the
+    /// The schedule that the text names, if any: the bad one, or where the search was cut short the
     /// first bad one of those tried.
     pub fn schedule(&self) -> Option<&[u8]>
         ensures { MatchOption result

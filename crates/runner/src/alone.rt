@@ -7,7 +7,7 @@ ghost use Rattle.report.specs.Promises.{IsSearch, IsReport};
 ghost use Rattle.runner.specs.inner.Judging.{IsAt, ComesAfter, HasEnded};
 ghost use Rattle.runner.specs.inner.Shrinking.{Went, Goes};
 
-use crate::course::{Course, begin, raise};
+use crate::course::{Course, begin_search, raise};
 use crate::judge::{Ending, Next, judge};
 use crate::reports::report_at_end;
 use book::books::Book;
@@ -30,9 +30,9 @@ struct Lone {
 }
 
 impl Lone {
-    // Walks an item of a round and settles the walk; then the book drops what can't hold the first
-    // bad schedule any more. An item that it drops is passed over, and one that isn't open is given
-    // up.
+    // Walks an item of a round and settles the walk; then a quick book drops what can't hold the
+    // first bad schedule any more. An item that the book drops is passed over; the walk of an item
+    // that isn't open is given up.
     fn walk_item(
         &mut self,
         alloc: Global,
@@ -51,7 +51,7 @@ impl Lone {
             let _number = book.drop_later();
             return Ok(());
         }
-        self.walker.clear(&mut self.found, book.lists());
+        self.walker.clear(&mut self.found, book.lists_deferred());
         self.walker
             .walk_on(alloc, &mut self.found, item, book.mode(), quota)?;
         if !book.settle_all(alloc, slice::from_ref(item), &[0], &mut self.found)? {
@@ -61,7 +61,7 @@ impl Lone {
         Ok(())
     }
 
-    // Walks copies of the items of a round in their order: some items may be dropped in between.
+    // Walks copies of the items of a book's next round in order: items may be dropped in between.
     fn walk_copies(
         &mut self,
         alloc: Global,
@@ -82,7 +82,7 @@ impl Lone {
         Ok(())
     }
 
-    // Walks the items of a round in their order.
+    // Walks the items of a book's next round in order, and settles the walks.
     fn walk_round(&mut self, alloc: Global, book: &mut Book, quota: u32) -> Result<(), ExploreError>
         requires quota { 1 ≤ quota }
         requires book { book.old.of.program ≡ self.old.walker }
@@ -99,8 +99,8 @@ impl Lone {
     }
 }
 
-// The rounds of a search at one bound, or without one. The gate is told how far it is, and asked
-// nothing.
+// Walks the rounds of a search at one bound, or without one. Answers how the search ends, if no
+// next bound follows. The gate is told how far the search is, and asked nothing.
 fn search_bound<G: Gate>(
     alloc: Global,
     options: Options,
@@ -128,8 +128,8 @@ fn search_bound<G: Gate>(
     }
 }
 
-/// A search by one thread, bound after bound, until it ends. The gate is told after each round how
-/// far it is.
+/// Searches by one thread, bound after bound, until the search ends. The gate is told after each
+/// round how far the search is.
 pub(crate) fn search_alone<G: Gate>(
     alloc: Global,
     course: Course,
@@ -161,7 +161,7 @@ pub(crate) fn search_alone<G: Gate>(
 /// A search up to a bound tries all complete schedules with no preemption, then those with at most
 /// one, and so on; it ends at the first bound that a bad schedule is within, at the least bound
 /// that no schedule exceeds, or at the bound that was asked for. An unbounded one tries those that
-/// sleep sets leave. A quick one leaves out what can't hold the first bad schedule any more. It is
+/// sleep sets leave. A quick one leaves out what can't hold the first bad schedule any more. Any is
 /// cut short, unless it has its answer, after a round in which the limit was reached.
 ///
 /// # Errors
@@ -177,7 +177,7 @@ pub fn explore_alone(
     ensures report { IfOk result (IsReport false (arc_value program.now) options) }
     ensures error { IfErr result (λ e. e ≡ OutOfMemory) }
 {
-    let course = begin(alloc, program, options)?;
+    let course = begin_search(alloc, program, options)?;
     let (course, ending) = search_alone(alloc, course, &Open)?;
     report_at_end(alloc, program, options, &course.book, ending)
 }

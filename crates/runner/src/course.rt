@@ -35,7 +35,7 @@ pub(crate) struct Course {
     pub levels: Option<Vec<Level>>,
 }
 
-/// The preemptions of an item's prefix.
+/// How many preemptions an item's prefix has.
 pub(crate) fn preemptions_of(alloc: Global, item: &Item) -> Result<u32, ExploreError>
     ensures number { IfOk result (λ n. n ≡ preemptions item.now.program item.now.prefix) }
     ensures runs { IsItem item.now }
@@ -47,7 +47,7 @@ pub(crate) fn preemptions_of(alloc: Global, item: &Item) -> Result<u32, ExploreE
     Ok(run.preemptions() as u32)
 }
 
-// The mode that a search begins with, where a prefix has so many preemptions.
+// The mode in which a search under a prefix with so many preemptions begins.
 fn first_mode(search: Search, preemptions: u32) -> Mode
     ensures { result ≡ first_mode search preemptions }
 {
@@ -57,7 +57,7 @@ fn first_mode(search: Search, preemptions: u32) -> Mode
     }
 }
 
-// Whether what a mode puts off is listed: it is where the search may go on to another bound.
+// Whether what a mode puts off is listed, which it is if the search may go on to another bound.
 fn lists_at(search: Search, mode: Mode) -> bool
     ensures { result ≡ lists_at search mode }
 {
@@ -67,7 +67,7 @@ fn lists_at(search: Search, mode: Mode) -> bool
     }
 }
 
-// Begins the bound of a book to which a search has come: what its last bound puts off isn't listed.
+// Begins the bound to which a search's book has come: what the last bound puts off isn't listed.
 fn begin_bound(book: &mut Book, search: Search)
     requires lists { book.old.lists ≡ true }
     ensures { book.new ≡ begun search book.old }
@@ -77,7 +77,7 @@ fn begin_bound(book: &mut Book, search: Search)
     }
 }
 
-// The book of a program of which nothing is known.
+// The book of a program at the start of a search, a quick one or not.
 fn open(alloc: Global, program: Arc<Program>, mode: Mode, quick: bool) -> Result<Book, ExploreError>
     ensures book { IfOk result (λ b. b ≡ opening (arc_value program) mode quick) }
     ensures error { IfErr result (λ e. e ≡ OutOfMemory) }
@@ -89,8 +89,8 @@ fn open(alloc: Global, program: Arc<Program>, mode: Mode, quick: bool) -> Result
     }
 }
 
-/// The search of a program of which nothing is known, where it begins. It keeps no levels.
-pub(crate) fn begin(
+/// The search of a program at its start, where nothing is tried. No levels are kept.
+pub(crate) fn begin_search(
     alloc: Global,
     program: &Arc<Program>,
     options: Options,
@@ -123,7 +123,7 @@ pub(crate) fn level_past(alloc: Global, bound: u32) -> Level
     }
 }
 
-/// The levels of the bounds below this one, for an item whose own prefix exceeds them.
+/// The levels of the bounds below `end`, for an item whose own prefix exceeds these bounds.
 pub(crate) fn levels_past(alloc: Global, end: u32) -> Result<Vec<Level>, ExploreError>
     ensures levels { IfOk result (λ v. (i : ItemView) → IsItem i →
         end ≤ preemptions i.program i.prefix → AreBelow i (Bounded end) v.items) }
@@ -136,8 +136,8 @@ pub(crate) fn levels_past(alloc: Global, end: u32) -> Result<Vec<Level>, Explore
     Ok(levels)
 }
 
-// The levels of the bounds below the first mode at which something is tried of what is under a
-// prefix with so many preemptions.
+// The levels of the bounds below the mode in which a search under a prefix begins, where the prefix
+// has this `number` of preemptions.
 fn levels_below(alloc: Global, search: Search, number: u32) -> Result<Vec<Level>, ExploreError>
     ensures levels { IfOk result (λ v. (i : ItemView) → IsItem i →
         number ≡ preemptions i.program i.prefix → AreBelow i (first_mode search number) v.items) }
@@ -149,9 +149,9 @@ fn levels_below(alloc: Global, search: Search, number: u32) -> Result<Vec<Level>
     }
 }
 
-/// The search under an item whose prefix has so many preemptions, where it begins: at the first
-/// mode at which something is tried. It keeps levels.
-pub(crate) fn begin_under(
+/// The search under an item whose prefix has this `number` of preemptions, at its start: in the
+/// first mode in which something is tried. Levels are kept.
+pub(crate) fn begin_search_under(
     alloc: Global,
     item: Item,
     number: u32,
@@ -175,7 +175,7 @@ pub(crate) fn begin_under(
     })
 }
 
-// What a book found at its bound, or with a cause what was tried when the search was cut short.
+// The level of a book's bound: what was tried, and the cause if the search was cut short there.
 fn level_of(alloc: Global, book: &Book, cause: Option<Cause>) -> Result<Level, ExploreError>
     ensures level { IfOk result (λ l. l ≡ level_at book.now.mode book.now.finished cause) }
     ensures kept { Keeps book.now }
@@ -188,7 +188,7 @@ fn level_of(alloc: Global, book: &Book, cause: Option<Cause>) -> Result<Level, E
     })
 }
 
-// Keeps the level of a bound that is finished, where levels are kept.
+// Adds the level of a book's finished bound to the levels, where levels are kept.
 fn keep_level(
     alloc: Global,
     book: &Book,
@@ -208,8 +208,7 @@ fn keep_level(
     }
 }
 
-/// Goes on from a bound that is finished to the next; the level of the one is kept, where levels
-/// are.
+/// Goes on from a book's finished bound to the next, and keeps its level, where levels are kept.
 pub(crate) fn raise(
     alloc: Global,
     options: Options,
@@ -240,7 +239,7 @@ pub(crate) fn raise(
     }
 }
 
-/// The levels of a search that kept them and has ended so.
+/// The levels of a search that kept levels and has ended with this ending.
 pub(crate) fn levels_at_end(
     alloc: Global,
     course: Course,

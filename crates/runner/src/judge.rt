@@ -13,9 +13,9 @@ use summary::Summary;
 /// How a search ends.
 #[derive(Clone, Copy)]
 pub(crate) enum Ending {
-    /// Of a bound after which it doesn't go on, all was tried.
+    /// All was tried at a bound after which the search doesn't go on.
     Whole,
-    /// It is cut short.
+    /// The search is cut short.
     Cut(Cause),
 }
 
@@ -31,10 +31,10 @@ impl Ending {
     }
 }
 
-/// What comes next.
+/// What comes next after a round.
 #[derive(Clone, Copy)]
 pub(crate) enum Next {
-    /// Items are open.
+    /// Items are open, and another round follows.
     Again,
     /// The bound is finished, and the search goes on to the next.
     Raise,
@@ -53,7 +53,7 @@ fn is_last(search: Search, mode: Mode) -> bool
     }
 }
 
-/// Whether a search that finds this sum of all at a mode goes on to the next bound.
+/// Whether a search that has tried all at a mode, with this summary, goes on to the next bound.
 pub(crate) fn goes_on(search: Search, mode: Mode, summary: &Summary) -> bool
     requires { IsModeOf search mode }
     ensures { IsTrue result ↔ GoesOn search mode summary.now }
@@ -61,7 +61,7 @@ pub(crate) fn goes_on(search: Search, mode: Mode, summary: &Summary) -> bool
     summary.first_bad().is_none() && summary.beyond() && !is_last(search, mode)
 }
 
-// Why a search is cut short, if it is.
+// Why a search is cut short after a round, if it is: stopped by a gate, or at its limit.
 fn cause_of(limit: Option<u64>, summary: &Summary, stopped: bool) -> Option<Cause>
     ensures some { IfSome result (IsCause stopped limit summary.now) }
     ensures none { IfNone result (HasNoCause stopped limit summary.now) }

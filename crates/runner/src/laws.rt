@@ -13,7 +13,7 @@ ghost use Rattle.report.specs.ReportText.{report_text};
 use crate::limits::{QUOTA, WORKERS};
 
 /// Two reports of one program and search that aren't quick and were not cut short have one text. So
-/// it depends neither on the workers, the gate and the quota, nor on a limit that was not reached.
+/// that text depends neither on workers, gate and quota, nor on a limit that was not reached.
 pub fn reports_agree()
     ensures { (may other : Bool) (p : Program) (o q : Options) (r s : Report) →
         o.search ≡ q.search → o.quick ≡ false → q.quick ≡ false →

@@ -32,4 +32,4 @@ pub use report::{
 pub use reports::{end_of, report_of};
 pub use text::{explore_text, explore_text_alone, program_of};
 pub use together::{explore, explore_under};
-pub use workers::{Decision, Gate, Open};
+pub use workers::{Answer, Gate, Open};

@@ -40,7 +40,7 @@ pub(crate) fn run_of(alloc: Global, program: &Program, schedule: &[u8]) -> Resul
     }
 }
 
-// How a run ends that is one of a complete schedule.
+// How the run of a complete schedule ends.
 fn kind_of(run: &Run) -> Kind
     requires { run.now.kind ≡ None → ⊥ }
     ensures { run.now.kind ≡ Some result }
@@ -71,7 +71,7 @@ pub fn end_of(
     Ok((kind_of(&run), run.preemptions() as u32))
 }
 
-// The verdict on a sum of all: on its bad schedule, or that there is none.
+// The verdict on the summary of a search that has tried all: its bad schedule, or that none is bad.
 fn verdict_on(alloc: Global, program: &Program, summary: &Summary) -> Result<Verdict, ExploreError>
     requires { IsOfProgram program.now summary.now.first_bad }
     ensures verdict { IfOk result (IsVerdictOn program.now summary.now) }
@@ -89,7 +89,7 @@ fn verdict_on(alloc: Global, program: &Program, summary: &Summary) -> Result<Ver
     })
 }
 
-// The report of a search in a mode.
+// The report of a search that ends in a mode with this summary and this verdict.
 fn report_in(
     alloc: Global,
     options: Options,
@@ -108,7 +108,7 @@ fn report_in(
     })
 }
 
-// The report of a search that comes to this sum of all at this mode and ends there.
+// The report of a search that has tried all at a mode, with this summary, and ends there.
 fn report_whole(
     alloc: Global,
     program: &Program,
@@ -127,11 +127,11 @@ fn report_whole(
     report_in(alloc, options, mode, summary, verdict)
 }
 
-/// The report of a search that comes to this sum of all of the program's schedules at this mode,
-/// if it ends there: a bad schedule was found, nothing is beyond, or the mode is its last. Else it
-/// goes on to the next bound.
+/// The report of a search that comes to this summary of all of the program's schedules at a mode,
+/// if the search ends there: a bad schedule was found, nothing is beyond, or the mode is the last.
+/// Else none, and the search goes on to the next bound.
 ///
-/// It is a report of the program where the bounds below are passed and the sum is the program's.
+/// The report is right where the bounds below are passed and the summary is the program's.
 ///
 /// # Errors
 ///
@@ -157,8 +157,8 @@ pub fn report_of(
     Ok(Some(report))
 }
 
-// What a book found where nothing is open and it is of this program and mode.
-fn found<'a>(book: &'a Book, program: &Program, mode: Mode) -> Option<&'a Summary>
+// What a book, quick or not, found: if nothing is open, and it is of `program`'s root and `mode`.
+fn found_summary<'a>(book: &'a Book, program: &Program, mode: Mode) -> Option<&'a Summary>
     ensures some { IfSome result (λ s.
         (s.now ≡ book.now.finished) × IsClosed book.now program.now mode) }
     ensures none { IfNone result (IsClosed book.now program.now mode → ⊥) }
@@ -173,7 +173,7 @@ fn found<'a>(book: &'a Book, program: &Program, mode: Mode) -> Option<&'a Summar
     }
 }
 
-// The bound below that of a mode, if there is one.
+// The bound below a mode's bound, if there is one.
 fn bound_below(mode: Mode) -> Option<u32>
     ensures { IsBoundBelow mode result }
 {
@@ -190,13 +190,13 @@ fn last_finished(program: &Program, book: &Book) -> Option<u32>
     ensures { IsFinishedIn program.now book.now.mode result }
 {
     let mode = book.mode();
-    match found(book, program, mode) {
+    match found_summary(book, program, mode) {
         Some(_) => mode_bound(mode),
         None => bound_below(mode),
     }
 }
 
-/// The report of a search of a program that has ended so at this book.
+/// The report of a search of a program that has ended with this ending, and with this book.
 pub(crate) fn report_at_end(
     alloc: Global,
     program: &Program,
@@ -212,7 +212,7 @@ pub(crate) fn report_at_end(
 {
     let mode = book.mode();
     match ending {
-        Ending::Whole => match found(book, program, mode) {
+        Ending::Whole => match found_summary(book, program, mode) {
             Some(summary) => report_whole(alloc, program, options, mode, summary),
             None => unreachable!(),
         },

@@ -11,7 +11,8 @@ ghost use Rattle.runner.specs.inner.Judging.{IsAt, AreKept, HasEnded, Ends, firs
 
 use crate::alone::search_alone;
 use crate::course::{
-    Course, begin, begin_under, level_past, levels_at_end, levels_past, preemptions_of, raise,
+    Course, begin_search, begin_search_under, level_past, levels_at_end, levels_past,
+    preemptions_of, raise,
 };
 use crate::judge::{Ending, Next, judge};
 use crate::reports::report_at_end;
@@ -25,9 +26,9 @@ use std::sync::{Arc, Wait};
 use std::thread::Threads;
 use workers::{Gate, Team};
 
-// What follows a round whose workers settled what they walked in this book, where one of them was
-// stopped or not: the search ends, or there is another round of the book. A quick book first drops
-// what can't hold the first bad schedule any more.
+// What follows a round that was settled in this book, where a worker was `stopped` or not: the
+// answer is how the search ends, or none where another round of the book follows. A quick book
+// first drops what can't hold the first bad schedule any more.
 fn after_round(
     alloc: Global,
     options: Options,
@@ -55,7 +56,7 @@ fn after_round(
     }
 }
 
-// A search by several workers, from 1 to `WORKERS`, until it ends; see `explore`.
+// Searches by several workers, from 1 to `WORKERS`, until the search ends; see `explore`.
 fn search<G: Gate, R: Threads + Wait + Sync>(
     rt: &R,
     alloc: Global,
@@ -103,19 +104,19 @@ fn search<G: Gate, R: Threads + Wait + Sync>(
 /// The search goes by rounds. The workers draw the items of a round one by one; each asks the gate,
 /// walks the item while it holds no lock, and settles some walks at a time in the one book that all
 /// share. Where the gate may not stop and many items are open, each worker has rounds of its own
-/// instead. They go from round to round in the threads that they have, until the round after which
-/// something has to be judged: the last of a bound, one in which the limit was reached or the gate
-/// stopped a worker, and in a quick search one in which a bad schedule was found. The report is
-/// that of [`explore_alone`], whatever the workers and the quota, but for the numbers of an
+/// instead. Workers go from round to round in the threads that they have, until the round after
+/// which something has to be judged: the last of a bound, one in which the limit was reached or the
+/// gate stopped a worker, and in a quick search one in which a bad schedule was found. The report
+/// is that of [`explore_alone`], whatever the workers and the quota, but for the numbers of an
 /// incomplete one, and for what a quick search leaves out. A limit may be passed by what the rounds
 /// try that are walked when it is reached.
 ///
 /// A worker that the gate stops walks no more in its round. Where the search has no answer then, it
-/// is cut short. A single worker asks no gate, and tells it after each round how far the search is,
-/// as several do.
+/// is cut short. A single worker asks the gate nothing, and tells it after each round how far the
+/// search is, as several do.
 ///
-/// The contract holds if the call returns. That it does is not proved: it waits for the lock of the
-/// book, for the gate, and for a round to end.
+/// The contract holds if the call returns. That it does is not proved: workers wait for the lock of
+/// the book, for the gate, and for a round to end.
 ///
 /// # Errors
 ///
@@ -134,13 +135,13 @@ pub fn explore<G: Gate, R: Threads + Wait + Sync>(
     ensures report { IfOk result (IsReport (G.stops gate.now) (arc_value program.now) options) }
     ensures error { IfErr result (λ e. e ≡ OutOfMemory) }
 {
-    let course = begin(alloc, program, options)?;
+    let course = begin_search(alloc, program, options)?;
     let (course, ending) = search(rt, alloc, course, workers, gate)?;
     report_at_end(alloc, program, options, &course.book, ending)
 }
 
-// The last bound of a search, where a prefix with so many preemptions exceeds it.
-fn last_past(search: Search, preemptions: u32) -> Option<u32>
+// The last bound of a search, if a prefix with so many preemptions exceeds that bound.
+fn exceeded_bound(search: Search, preemptions: u32) -> Option<u32>
     ensures past { IfSome result (λ last. (search ≡ UpTo last) × (last < preemptions)) }
     ensures within { IfNone result (IsModeOf search (first_mode search preemptions)) }
 {
@@ -154,8 +155,8 @@ fn last_past(search: Search, preemptions: u32) -> Option<u32>
 /// program: the levels of the bounds from 0 on, up to the first at which something under the item
 /// is bad or nothing under it is beyond, or to the bound that was asked for; one level, where the
 /// search is unbounded. At a bound that the item's own prefix exceeds nothing is tried, and all is
-/// beyond. Where the search is cut short, the last level has the cause. It isn't a quick one,
-/// whatever the options say.
+/// beyond. Where the search is cut short, the last level has the cause. No search
+/// under an item is quick, whatever the options say.
 ///
 /// As that of [`explore`], the contract holds if the call returns.
 ///
@@ -178,7 +179,7 @@ pub fn explore_under<G: Gate, R: Threads + Wait + Sync>(
     ensures error { IfErr result (λ e. e ≡ OutOfMemory) }
 {
     let preemptions = preemptions_of(alloc, &item)?;
-    if let Some(last) = last_past(options.search, preemptions) {
+    if let Some(last) = exceeded_bound(options.search, preemptions) {
         let mut levels = levels_past(alloc, last)?;
         levels.push(level_past(alloc, last))?;
         return Ok(levels);
@@ -187,7 +188,7 @@ pub fn explore_under<G: Gate, R: Threads + Wait + Sync>(
         quick: false,
         ..options
     };
-    let course = begin_under(alloc, item, preemptions, options)?;
+    let course = begin_search_under(alloc, item, preemptions, options)?;
     let (course, ending) = search(rt, alloc, course, workers, gate)?;
     levels_at_end(alloc, course, ending)
 }

@@ -12,7 +12,7 @@ use semantics::state::{Action, State, VariableAction};
 
 /// Whether the next steps of two different threads are independent: no object is touched by both
 /// with one of them writing it. Then each leaves the other enabled, and both orders lead to one
-/// state. It takes no memory.
+/// state. Nothing is allocated.
 pub fn independent(program: &Program, state: &State, thread: u8, other: u8) -> bool
     requires of { IsOf program.now state.now }
     requires thread { thread < length program.now.threads }
@@ -23,11 +23,11 @@ pub fn independent(program: &Program, state: &State, thread: u8, other: u8) -> b
     if thread == other {
         return false;
     }
-    next_apart(state.next(program, thread), state.next(program, other))
+    next_steps_apart(state.next(program, thread), state.next(program, other))
 }
 
-/// Whether both are there, and no object is touched by both with one of them writing it.
-pub fn next_apart(first: Option<Action>, second: Option<Action>) -> bool
+/// Whether both steps are there, and no object is touched by both with one of them writing it.
+pub fn next_steps_apart(first: Option<Action>, second: Option<Action>) -> bool
     ensures { result ≡ apart first second }
 {
     match (first, second) {
@@ -36,7 +36,7 @@ pub fn next_apart(first: Option<Action>, second: Option<Action>) -> bool
     }
 }
 
-// Whether no object is touched by both with one of them writing it.
+// Whether no object is touched by both steps with one of them writing it.
 fn are_apart(first: Action, second: Action) -> bool
     ensures { result ≡ apart (Some first) (Some second) }
 {
@@ -52,7 +52,7 @@ fn are_apart(first: Action, second: Action) -> bool
     }
 }
 
-// Whether the two are of different variables, or both load.
+// Whether two steps, each after its variable's number, are on different variables, or both load.
 fn variables_apart(first: (usize, VariableAction), second: (usize, VariableAction)) -> bool
     ensures { result ≡ not (conflict (access_of first.1 first.0) (access_of second.1 second.0)) }
 {
@@ -62,16 +62,15 @@ fn variables_apart(first: (usize, VariableAction), second: (usize, VariableActio
     }
 }
 
-// Whether a thread sleeps or comes before this one.
+// Whether `other` was tried before `thread`: it sleeps, or its number is smaller.
 fn is_tried(asleep: Mask, thread: u8, other: u8) -> bool
     ensures { result ≡ (has asleep other || nat_lt other thread) }
 {
     asleep.contains(other) || other < thread
 }
 
-/// Who sleeps after a step of a thread at a state where these are enabled and these asleep: the
-/// enabled threads that slept or come before it, and whose next steps are independent of its own.
-/// It takes no memory.
+/// The threads that sleep after a step of `thread`: of those enabled before the step, the ones that
+/// slept or come before `thread`, and whose next steps are independent of its own. Takes no memory.
 pub fn sleepers_after(
     program: &Program,
     state: &State,
@@ -89,7 +88,7 @@ pub fn sleepers_after(
     let mut from = 0;
     while let Some(other) = enabled.first_from(from) {
         let tried = is_tried(asleep, thread, other) && thread != other;
-        let sleeps = tried && next_apart(step, state.next(program, other));
+        let sleeps = tried && next_steps_apart(step, state.next(program, other));
         sleepers = sleepers.with(other, sleeps);
         from = other + 1;
     }

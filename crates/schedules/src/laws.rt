@@ -1,5 +1,4 @@
-//! Laws of the definitions, for their readers and for the crates above. A law is what its function
-//! ensures; the functions do nothing.
+//! Laws of the definitions. A law is what its function ensures; the functions do nothing.
 
 pub mod independence;
 pub mod order;

@@ -6,7 +6,7 @@ ghost use Rattle.semantics.specs.Machine.{action_of, retake_of, action_at, owns}
 use crate::state::{Action, ConditionAction, MutexAction, SemaphoreAction, Status, VariableAction};
 use guest_code::program::Instruction;
 
-/// The step of a visible statement.
+/// The step of a visible statement; `None` for an instruction that a thread does by itself.
 pub fn action_of(instruction: &Instruction) -> Option<Action>
     ensures { result ≡ action_of instruction.now }
 {
@@ -44,7 +44,7 @@ pub fn action_of(instruction: &Instruction) -> Option<Action>
     }
 }
 
-/// The step of a woken thread, which takes the mutex of its `wait` again.
+/// The step of a woken thread at its `wait`, whose mutex is taken again; `None` elsewhere.
 pub fn retake_of(instruction: &Instruction) -> Option<Action>
     ensures { result ≡ retake_of instruction.now }
 {
@@ -54,7 +54,7 @@ pub fn retake_of(instruction: &Instruction) -> Option<Action>
     }
 }
 
-/// What a thread of this status does next at this instruction.
+/// The next step of a thread of this status at this instruction; `None` where it has none.
 pub fn action_at(status: Status, instruction: &Instruction) -> Option<Action>
     ensures { result ≡ action_at status (Some instruction.now) }
 {
@@ -65,7 +65,7 @@ pub fn action_at(status: Status, instruction: &Instruction) -> Option<Action>
     }
 }
 
-/// Whether a thread owns a mutex.
+/// Whether a thread owns a mutex that has this owner; one without an owner is free.
 pub fn owns(thread: u8, owner: Option<u8>) -> bool
     ensures { result ≡ owns thread owner }
 {

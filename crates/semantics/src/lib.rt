@@ -34,4 +34,6 @@ pub mod undo;
 pub mod view;
 
 pub use crate::action::{action_at, owns};
-pub use crate::local::{Landing, Turn, access, expression_at, next_local, operand_at, run_local};
+pub use crate::local::{
+    Landing, Turn, access, expression_value, next_local, operand_value, run_local,
+};

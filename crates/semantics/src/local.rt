@@ -9,34 +9,33 @@ use crate::state::{Status, Stop, Thread, VariableAction};
 use guest_code::program::{Expression, Instruction, Value};
 use guest_syntax::tree::Op;
 
-/// What comes of the instruction where a thread is, if it does it by itself.
+/// What comes of the instruction that a thread is at, done as far as the thread can by itself.
 #[derive(Clone, Copy, Debug, PartialEq, Eq)]
 pub enum Turn {
-    /// It is done, and the thread goes on at the instruction of this number; at the length of the
-    /// code it ends there.
+    /// The instruction is done, and that of this number follows, or the end at the code's length.
     Runs(usize),
-    /// It is an assertion, which fails.
+    /// The instruction is an assertion, which fails.
     Fails,
-    /// It is a `lock` or an `acquire`, whose step may have to wait.
+    /// The instruction is a `lock` or an `acquire`, whose step may have to wait.
     Takes,
-    /// It is another visible statement, whose step is possible at once.
+    /// The instruction is another visible statement, whose step is possible at once.
     Visible,
-    /// There is none: the thread is at the end of its code.
+    /// There is no instruction: the thread is at the end of its code.
     Ends,
 }
 
-/// Where a thread is, and whether it goes on.
+/// Where a thread is after its local run, and whether it goes on.
 #[derive(Clone, Copy, Debug)]
 pub struct Landing {
     /// The number of the instruction; the length of the code where the thread ended.
     pub pc: usize,
     pub status: Status,
-    /// Its next step is known to be possible, and to take no mutex and acquire no semaphore.
+    /// Whether the next step is known to be possible, to take no mutex and acquire no semaphore.
     pub free: bool,
 }
 
-/// A local's value, or the number itself.
-pub fn operand_at(locals: &[i64], value: Value) -> i64
+/// The value of an operand: that of its local, where the locals have these values, or a literal.
+pub fn operand_value(locals: &[i64], value: Value) -> i64
     requires { IsValueBelow (length locals.now) value }
     ensures { result ≡ value_of_operand locals.now value }
 {
@@ -46,15 +45,15 @@ pub fn operand_at(locals: &[i64], value: Value) -> i64
     }
 }
 
-// Whether a variable of this value has the value that is expected.
+// Whether the value `variable` of a variable is the one that a `cas` expects.
 fn is_expected(locals: &[i64], expected: Value, variable: i64) -> bool
     requires { IsValueBelow (length locals.now) expected }
     ensures { result ≡ is_expected locals.now expected variable }
 {
-    variable == operand_at(locals, expected)
+    variable == operand_value(locals, expected)
 }
 
-/// What a thread does with a variable, whose value is in the cell. Sums wrap.
+/// Does a thread's action on a variable, whose value is in the cell. Sums wrap.
 #[inline(always)]
 pub fn access(cell: &mut i64, locals: &mut [i64], action: VariableAction)
     requires { IsAccessBelow (length locals.old) action }
@@ -64,16 +63,16 @@ pub fn access(cell: &mut i64, locals: &mut [i64], action: VariableAction)
 {
     match action {
         VariableAction::Load(local) => locals[local] = *cell,
-        VariableAction::Store(value) => *cell = operand_at(locals, value),
+        VariableAction::Store(value) => *cell = operand_value(locals, value),
         VariableAction::Add(local, value) => {
             let old = *cell;
-            *cell = old.wrapping_add(operand_at(locals, value));
+            *cell = old.wrapping_add(operand_value(locals, value));
             locals[local] = old;
         }
         VariableAction::Cas(local, expected, new) => {
             let hit = is_expected(locals, expected, *cell);
             if hit {
-                *cell = operand_at(locals, new);
+                *cell = operand_value(locals, new);
             }
             locals[local] = i64::from(hit);
         }
@@ -81,7 +80,7 @@ pub fn access(cell: &mut i64, locals: &mut [i64], action: VariableAction)
 }
 
 /// What an operator makes of two values. Sums, differences and products wrap.
-pub fn of_both(op: Op, a: i64, b: i64) -> i64
+pub fn operation_value(op: Op, a: i64, b: i64) -> i64
     ensures { result ≡ of_both op a b }
 {
     match op {
@@ -99,26 +98,28 @@ pub fn of_both(op: Op, a: i64, b: i64) -> i64
 
 /// The value of an expression, where the locals have these values.
 #[inline(always)]
-pub fn expression_at(locals: &[i64], expression: &Expression) -> i64
+pub fn expression_value(locals: &[i64], expression: &Expression) -> i64
     requires { IsExpressionBelow (length locals.now) expression.now }
     ensures { result ≡ value_of_expression locals.now expression.now }
 {
     match expression {
-        Expression::Single(a) => operand_at(locals, *a),
-        Expression::Both(a, op, b) => of_both(*op, operand_at(locals, *a), operand_at(locals, *b)),
+        Expression::Single(a) => operand_value(locals, *a),
+        Expression::Both(a, op, b) => {
+            operation_value(*op, operand_value(locals, *a), operand_value(locals, *b))
+        }
     }
 }
 
-// Whether an expression is 0.
+// Whether an expression is 0, where the locals have these values.
 fn is_zero_at(locals: &[i64], expression: &Expression) -> bool
     requires { IsExpressionBelow (length locals.now) expression.now }
     ensures { result ≡ is_zero (value_of_expression locals.now expression.now) }
 {
-    expression_at(locals, expression) == 0
+    expression_value(locals, expression) == 0
 }
 
-// The instruction after this one and `skip` more, or the end of the code.
-fn past(code: &[Instruction], at: usize, skip: usize) -> usize
+// The number of the instruction after that of number `at` and `skip` more, or the code's length.
+fn pc_after_skip(code: &[Instruction], at: usize, skip: usize) -> usize
     requires { at < length code.now }
     ensures { result ≡ passed at skip (drop (at + 1) code.now) }
 {
@@ -126,8 +127,8 @@ fn past(code: &[Instruction], at: usize, skip: usize) -> usize
     next + skip.min(code.len() - next)
 }
 
-/// Does the instruction of this number as far as a thread does it by itself, whose locals have
-/// these values, and says what comes of it.
+/// Does the instruction of number `at`, as far as a thread with these locals does it by itself, and
+/// says what comes of that.
 #[inline(always)]
 pub fn next_local(code: &[Instruction], locals: &mut [i64], at: usize) -> Turn
     requires { All (LocalsBelow (length locals.old)) code.now }
@@ -140,7 +141,7 @@ pub fn next_local(code: &[Instruction], locals: &mut [i64], at: usize) -> Turn
     }
     match &code[at] {
         Instruction::Set { local, value } => {
-            locals[*local] = expression_at(locals, value);
+            locals[*local] = expression_value(locals, value);
             Turn::Runs(at + 1)
         }
         Instruction::Assert(e) => {
@@ -151,16 +152,16 @@ pub fn next_local(code: &[Instruction], locals: &mut [i64], at: usize) -> Turn
         }
         Instruction::SkipIfZero(e, n) => {
             let skip = if is_zero_at(locals, e) { *n } else { 0 };
-            Turn::Runs(past(code, at, skip))
+            Turn::Runs(pc_after_skip(code, at, skip))
         }
-        Instruction::Skip(n) => Turn::Runs(past(code, at, *n)),
+        Instruction::Skip(n) => Turn::Runs(pc_after_skip(code, at, *n)),
         Instruction::Lock(_) | Instruction::Acquire(_) => Turn::Takes,
         _ => Turn::Visible,
     }
 }
 
-/// Runs a thread's own instructions from a place on, up to a visible statement, the end or a failed
-/// assertion. Where it comes to a visible statement it keeps its status.
+/// Runs a thread's own instructions from number `from` on, up to a visible statement, the end or a
+/// failed assertion. At a visible statement the thread keeps its status.
 #[inline(always)]
 pub fn run_local(code: &[Instruction], locals: &mut [i64], from: usize, status: Status) -> Landing
     requires below { All (LocalsBelow (length locals.old)) code.now }
@@ -211,7 +212,7 @@ pub fn run_on(code: &[Instruction], thread: &mut Thread)
     thread.status = at.status;
 }
 
-/// After its visible statement a thread runs on.
+/// Moves a thread past the visible statement that it is at, and runs its own instructions on.
 pub fn resume(code: &[Instruction], thread: &mut Thread)
     requires fine { (p : Program) × IsValidCode p code.now }
     requires pc { thread.old.pc < length code.now }

@@ -26,7 +26,7 @@ impl Mask {
         Mask { bits: 0 }
     }
 
-    /// The set with this thread, or without it.
+    /// This set with the thread, where `on` is true, else without the thread.
     pub fn with(self, thread: u8, on: bool) -> Mask
         requires { thread < THREADS }
         ensures same { has result thread ≡ on }
@@ -43,7 +43,7 @@ impl Mask {
         }
     }
 
-    /// The members that aren't in the other set.
+    /// The members of this set that aren't in the other one.
     pub fn difference(self, other: Mask) -> Mask
         ensures { (u : ℕ) → has result u ≡ (has self u && not (has other u)) }
     {
@@ -52,7 +52,7 @@ impl Mask {
         }
     }
 
-    /// The members of either set.
+    /// The threads that are in this set, in the other one, or in both.
     pub fn union(self, other: Mask) -> Mask
         ensures { (u : ℕ) → has result u ≡ (has self u || has other u) }
     {
@@ -61,7 +61,7 @@ impl Mask {
         }
     }
 
-    /// The least member from a number on.
+    /// The least member that is `least` or more, if there is one.
     pub fn first_from(self, least: u8) -> Option<u8>
         ensures list { MatchOption result (members_from self least ≡ [])
             (λ t. members_from self least ≡ t ∷ members_from self (t + 1)) }

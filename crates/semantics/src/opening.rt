@@ -1,4 +1,4 @@
-//! What a state opens with.
+//! What a program's opening state has.
 
 ghost use Rattle.std.specs.Prelude.{◌≡◌, ◌≤◌, length, All, IfOk};
 ghost use Rattle.semantics.specs.Machine.{start};
@@ -9,7 +9,7 @@ use guest_code::limits::{COUNT, LOCALS, THREADS};
 use guest_code::program::Program;
 use std::alloc::{AllocError, Global};
 
-/// The opening values of the variables.
+/// The opening values of a program's variables.
 pub fn opening_values(alloc: Global, program: &Program) -> Result<Vec<i64>, AllocError>
     ensures { IfOk result (λ v. v.items ≡ (start program.now).vars) }
 {
@@ -20,7 +20,7 @@ pub fn opening_values(alloc: Global, program: &Program) -> Result<Vec<i64>, Allo
     Ok(values)
 }
 
-/// The opening counts of the semaphores.
+/// The opening counts of a program's semaphores.
 pub fn opening_counts(alloc: Global, program: &Program) -> Result<Vec<u16>, AllocError>
     ensures counts { IfOk result (λ v. v.items ≡ (start program.now).counts) }
     ensures full { IfOk result (λ v. All (λ n. n ≤ COUNT) v.items) }
@@ -32,7 +32,7 @@ pub fn opening_counts(alloc: Global, program: &Program) -> Result<Vec<u16>, Allo
     Ok(counts)
 }
 
-/// The threads, each after its first local run.
+/// A program's threads, each after its first local run.
 pub fn opening_threads(alloc: Global, program: &Program) -> Result<Vec<Thread>, AllocError>
     ensures few { length program.now.threads ≤ THREADS }
     ensures threads { IfOk result (λ v. v.items ≡ (start program.now).threads) }

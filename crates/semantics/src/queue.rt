@@ -6,8 +6,8 @@ use guest_code::limits::THREADS;
 use std::alloc::AllocError;
 use std::marker::Model;
 
-/// Threads that wait, the one that waits longest first. It has room for every thread, so it takes
-/// no memory.
+/// Threads that wait, the one that waits longest first. A queue has room for every thread, so that
+/// nothing is allocated.
 #[derive(Drop)]
 pub struct Queue {
     threads: [u8; THREADS],
@@ -46,7 +46,7 @@ impl Queue {
         }
     }
 
-    /// The threads, the one that waits longest first.
+    /// The threads in the queue, the one that waits longest first.
     pub fn threads(&self) -> &[u8]
         ensures { result.now ≡ self.now }
     {
@@ -63,7 +63,7 @@ impl Queue {
         }
     }
 
-    /// Puts a thread at the end.
+    /// Puts a thread at the end of the queue.
     pub fn push(&mut self, thread: u8)
         requires room { length self.old < THREADS }
         ensures { self.new ≡ self.old ++ thread ∷ [] }
@@ -72,7 +72,7 @@ impl Queue {
         self.length += 1;
     }
 
-    /// Takes out the thread that waits longest.
+    /// Takes out the thread that waits longest, if one waits.
     pub fn pop(&mut self) -> Option<u8>
         ensures rest { self.new ≡ drop 1 self.old }
         ensures first { MatchOption result (self.old ≡ []) (λ t. take 1 self.old ≡ t ∷ []) }
@@ -86,7 +86,7 @@ impl Queue {
         Some(first)
     }
 
-    /// Takes out all.
+    /// Takes out all threads.
     pub fn clear(&mut self)
         ensures { self.new ≡ [] }
     {

@@ -7,7 +7,7 @@ ghost use Rattle.semantics.specs.Machine.{threads_to_wake, queue_after, woken, w
 use crate::queue::Queue;
 use crate::state::{ConditionAction, Status, Thread};
 
-// The thread is woken where it waits for the condition.
+// Wakes a thread, where it waits for this condition.
 fn wake_one(condition: u8, thread: &mut Thread)
     ensures { thread.new ≡ woken condition thread.old }
 {
@@ -16,7 +16,7 @@ fn wake_one(condition: u8, thread: &mut Thread)
     }
 }
 
-// These threads are woken.
+// Wakes the threads of these numbers, where they wait for this condition.
 fn wake(threads: &mut [Thread], condition: u8, threads_to_wake: &[u8])
     requires { All (λ u. u < length threads.old) threads_to_wake.now }
     ensures { threads.new ≡ wake condition threads_to_wake.now threads.old }
@@ -26,8 +26,8 @@ fn wake(threads: &mut [Thread], condition: u8, threads_to_wake: &[u8])
     }
 }
 
-/// Takes those whom a step on the condition calls out of its queue, and wakes them.
-pub fn call(queue: &mut Queue, threads: &mut [Thread], condition: u8, action: ConditionAction)
+/// Takes the threads that a signal or broadcast calls out of the condition's queue, and wakes them.
+pub fn notify(queue: &mut Queue, threads: &mut [Thread], condition: u8, action: ConditionAction)
     requires { All (λ u. u < length threads.old) queue.old }
     ensures queue { queue.new ≡ queue_after action queue.old }
     ensures threads { threads.new ≡ wake condition (threads_to_wake action queue.old) threads.old }
@@ -45,7 +45,7 @@ pub fn call(queue: &mut Queue, threads: &mut [Thread], condition: u8, action: Co
     }
 }
 
-/// These threads wait for the condition again.
+/// Makes the threads of these numbers wait for this condition again: takes their waking back.
 pub fn wait_again(threads: &mut [Thread], condition: u8, waiting: &[u8])
     requires { All (λ u. u < length threads.old) waiting.now }
     ensures { threads.new ≡ waiting_again condition waiting.now threads.old }

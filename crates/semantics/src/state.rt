@@ -12,7 +12,7 @@ pub(crate) mod objects;
 mod steps;
 
 use crate::action::action_at;
-use crate::local::operand_at;
+use crate::local::operand_value;
 use crate::mask::Mask;
 use crate::opening::{opening_counts, opening_threads, opening_values};
 use crate::queue::Queue;
@@ -36,15 +36,15 @@ pub enum Stop {
 /// Whether a thread goes on.
 #[derive(Clone, Copy, Debug, PartialEq, Eq)]
 pub enum Status {
-    /// It is at a visible statement.
+    /// The thread is at a visible statement.
     Running,
-    /// It was called, and has to take its mutex again.
+    /// A signal or a broadcast called the thread, which has to take its mutex again.
     Woken,
-    /// It is in the queue of the condition of this number.
+    /// The thread is in the queue of the condition of this number.
     Waiting(u8),
-    /// It ran to the end of its code.
+    /// The thread ran to the end of its code.
     Ended,
-    /// It takes no further step, and keeps the mutexes that it owns.
+    /// The thread takes no further step, and keeps the mutexes that it owns.
     Stopped(Stop),
 }
 
@@ -63,9 +63,9 @@ impl Status {
 /// Where a thread is, and its locals.
 #[derive(Clone, Copy, Debug)]
 pub struct Thread {
-    /// The number of the instruction where it is; the length of its code where it ended.
+    /// The number of the instruction that the thread is at; where it ended, the length of its code.
     pub pc: usize,
-    /// The values of its locals; those that it doesn't have stay 0.
+    /// The values of the thread's locals; those that it doesn't have stay 0.
     pub locals: [i64; LOCALS],
     pub status: Status,
 }
@@ -77,7 +77,7 @@ pub enum VariableAction {
     Load(usize),
     /// The variable becomes this value.
     Store(Value),
-    /// The local of this number becomes the variable's old value, and the variable the sum of it
+    /// The local of this number becomes the variable's old value, and the variable the sum of that
     /// and this value.
     Add(usize, Value),
     /// Where the variable equals the first value it becomes the second one, and the local of this
@@ -97,9 +97,9 @@ pub enum MutexAction {
 /// What a step does with a condition alone.
 #[derive(Clone, Copy, Debug, PartialEq, Eq)]
 pub enum ConditionAction {
-    /// The one that has waited longest is woken.
+    /// The thread that has waited longest is woken.
     Signal,
-    /// All that wait are woken.
+    /// All threads that wait are woken.
     Broadcast,
 }
 
@@ -149,7 +149,7 @@ impl Model for State {
 }
 
 impl State {
-    /// The opening state of a program: each thread has run its own instructions.
+    /// The opening state of a program: each thread has run up to its first visible statement.
     ///
     /// # Errors
     ///
@@ -248,16 +248,16 @@ impl State {
         self.threads[thread as usize].status
     }
 
-    /// The value that a store of a thread would write.
+    /// The value of an operand by the locals of a thread: what its store would write.
     pub fn value_of(&self, thread: u8, value: Value) -> i64
         requires thread { thread < length self.now.threads }
         requires fine { IsValidValue value }
         ensures { result ≡ value_of_operand (thread_at self.now thread).locals value }
     {
-        operand_at(self.locals(thread), value)
+        operand_value(self.locals(thread), value)
     }
 
-    /// What a thread is about to do, if it doesn't wait and is not over.
+    /// What a thread is about to do; `None` where it waits or is over.
     pub fn next(&self, program: &Program, thread: u8) -> Option<Action>
         requires of { IsOf program.now self.now }
         requires thread { thread < length program.now.threads }
@@ -284,7 +284,7 @@ impl State {
         }
     }
 
-    // Whether the objects allow this step.
+    // Whether the objects allow a step with this action: its mutex is free, its count above 0.
     fn allows(&self, action: Action) -> bool
         requires { (p : Program) × IsOf p self.now × IsValidAction p action }
         ensures { result ≡ can_do self.now (Some action) }
@@ -356,7 +356,7 @@ impl State {
     }
 }
 
-// Whether a thread stopped.
+// Whether some thread stopped.
 fn some_stopped(threads: &[Thread]) -> bool
     ensures { result ≡ list_any (λ th. is_stopped th.status) threads.now }
 {
@@ -379,7 +379,7 @@ fn all_ended(threads: &[Thread]) -> bool
     threads.iter().all(|th| has_ended(th))
 }
 
-// How a complete schedule ends that leaves the threads so.
+// How a complete schedule ends, by the threads in its last state.
 fn final_kind(threads: &[Thread]) -> Kind
     ensures { result ≡ final_kind threads.now }
 {

@@ -3,8 +3,7 @@
 use crate::state::Thread;
 use crate::state::objects::Objects;
 
-/// How to take one step back: its thread as it was before, and what the step changed beside it. It
-/// has a fixed size.
+/// How to take one step back: its thread and the objects that it changed, as before. Of fixed size.
 #[derive(Drop)]
 pub struct Undo {
     pub(crate) thread: u8,

@@ -21,7 +21,8 @@ pub enum Outcome {
     Searched(SearchResult),
     /// The text of the file is refused, or memory ran out.
     Refused(ExploreError),
-    /// The line of this number, counted from 1, says unclearly what is expected.
+    /// It is unclear what is expected: the line of this number, counted from 1, states no verdict,
+    /// or a second one. Nothing was searched.
     Unclear(u64),
     /// The file couldn't be read, for this cause.
     Unread(String),
@@ -41,7 +42,8 @@ pub struct Entry {
 }
 
 impl Entry {
-    /// The entry of a file with this text, after its searches within these limits.
+    /// The entry of a file with this text: reads what the text expects, and searches the guest in
+    /// it, within these limits. Where it is unclear what is expected nothing is searched.
     pub fn new<G: Gate, R>(rt: &R, file: String, text: &[u8], limits: Limits, gate: &G) -> Entry
     where
         R: Threads + Wait + Sync + Alloc<A = Global>,
@@ -65,7 +67,7 @@ impl Entry {
         }
     }
 
-    /// The entry of a file that isn't searched.
+    /// The entry of a file that isn't searched, for the reason that `outcome` says.
     pub fn unsearched(file: String, outcome: Outcome) -> Entry
         ensures { result ≡
             record { file = file; expected = None; lookalike = None; outcome = outcome } }
@@ -78,9 +80,11 @@ impl Entry {
         }
     }
 
-    /// The file's status: 0 where it is as expected, 1 where it isn't, or is bad and nothing is
-    /// expected, 2 where it is refused, 3 where its search was cut short before that was known, 4
-    /// for memory and devices.
+    /// The file's status: 0 where its guest is as expected, or no bad schedule was found and
+    /// nothing was expected; 1 where the guest isn't as expected, or is bad and nothing was
+    /// expected; 2 where the text or its expectation is refused; 3 where the search was cut short
+    /// before it was known whether the guest is as expected; 4 where memory ran out or the file
+    /// couldn't be read.
     pub fn status(&self) -> u8
         ensures { result ≡ status_of self.now }
     {
@@ -95,8 +99,9 @@ impl Entry {
     }
 }
 
-// The status of a file where a bad schedule was found, and none with fewer preemptions than `clear`
-// is bad.
+// The status of a file where the bad schedule `bad` was found, and none with fewer preemptions than
+// `clear` is bad: 0 where that is as expected, 1 where it isn't or nothing was expected, 3 where it
+// isn't known.
 fn bad_status(expected: Option<ExpectedVerdict>, bad: &BadSchedule, clear: u64) -> u8
     ensures { result ≡ bad_status expected bad.now clear }
 {
@@ -105,21 +110,23 @@ fn bad_status(expected: Option<ExpectedVerdict>, bad: &BadSchedule, clear: u64) 
         Some(ExpectedVerdict::BadAt(preemptions)) => {
             fewest_status(u64::from(preemptions), u64::from(bad.preemptions), clear)
         }
-        Some(ExpectedVerdict::Failed) => one_unless(bad.kind == Kind::Failed),
-        Some(ExpectedVerdict::Stuck) => one_unless(bad.kind == Kind::Stuck),
+        Some(ExpectedVerdict::Failed) => expectation_status(bad.kind == Kind::Failed),
+        Some(ExpectedVerdict::Stuck) => expectation_status(bad.kind == Kind::Stuck),
         Some(ExpectedVerdict::Clean) | None => 1,
     }
 }
 
-// The status where all depends on a condition: 0 where it holds, else 1.
-fn one_unless(condition: bool) -> u8
-    ensures { result ≡ one_unless condition }
+// The status of a file by its expectation alone: 0 where that is met, else 1.
+fn expectation_status(is_met: bool) -> u8
+    ensures { result ≡ one_unless is_met }
 {
-    if condition { 0 } else { 1 }
+    if is_met { 0 } else { 1 }
 }
 
-// The status where the fewest preemptions of a bad schedule were expected to be `expected`, a bad
-// schedule with `preemptions` was found, and none with fewer than `clear` is bad.
+// The status of a file where the fewest preemptions of a bad schedule were expected to be
+// `expected`, a bad schedule with `preemptions` was found, and none with fewer than `clear` is bad:
+// 0 where they are as many as expected, 1 where they can't be, 3 where the search didn't go far
+// enough to know.
 fn fewest_status(expected: u64, preemptions: u64, clear: u64) -> u8
     ensures { result ≡ fewest_status expected preemptions clear }
 {
@@ -132,7 +139,8 @@ fn fewest_status(expected: u64, preemptions: u64, clear: u64) -> u8
     }
 }
 
-// The status of a file where no bad schedule was found.
+// The status of a file where no bad schedule was found: 3 where the search was cut short, 0 where
+// no bad schedule was expected, else 1.
 fn unfound_status(expected: Option<ExpectedVerdict>, verdict: &Verdict) -> u8
     ensures { result ≡ unfound_status expected verdict.now }
 {

@@ -1,4 +1,4 @@
-//! What a guest's comments expect of it.
+//! What the comments of a guest's text expect of the guest.
 
 use std::fmt;
 
@@ -43,12 +43,12 @@ pub enum Expectation {
 }
 
 impl Expectation {
-    /// What the comments of a text expect. Blanks round the sign, the words and the line count for
-    /// nothing.
+    /// Reads what the comments of a text expect. Blanks around the `#`, around the words, and at
+    /// both ends of a line make no difference.
     pub fn of(text: &[u8]) -> Expectation {
         let mut found = Expectation::Absent;
         for (line, number) in text.split(|b| *b == b'\n').zip(1u64..) {
-            match (found, expect_words(line)) {
+            match (found, expectation_words(line)) {
                 (_, None) => {}
                 (Expectation::Absent, Some(words)) => {
                     found = expected_verdict(words).map_or(
@@ -63,7 +63,7 @@ impl Expectation {
     }
 }
 
-// The verdict that the words of an expectation state, if they state one.
+// The verdict that the words of an expectation state, as `bad 2`; `None` where they state none.
 fn expected_verdict(words: &[u8]) -> Option<ExpectedVerdict> {
     match words {
         b"bad" => Some(ExpectedVerdict::Bad),
@@ -77,7 +77,8 @@ fn expected_verdict(words: &[u8]) -> Option<ExpectedVerdict> {
     }
 }
 
-// The number that these bytes spell, if they are decimal digits alone and there is room for it.
+// The number that these bytes spell in decimal; `None` where they aren't digits alone, or the
+// number is too great for a `u32`.
 fn parse_decimal(digits: &[u8]) -> Option<u32> {
     let text = str::from_utf8(digits).ok()?;
     if digits.iter().all(u8::is_ascii_digit) {
@@ -87,23 +88,25 @@ fn parse_decimal(digits: &[u8]) -> Option<u32> {
     }
 }
 
-// The words after `# expect:` in a line, if the line is an expectation.
-fn expect_words(line: &[u8]) -> Option<&[u8]> {
+// The words after `# expect:` in a line; `None` where the line is no such comment.
+fn expectation_words(line: &[u8]) -> Option<&[u8]> {
     let comment = line.trim_ascii().strip_prefix(b"#")?;
     let words = comment.trim_ascii().strip_prefix(b"expect:")?;
     Some(words.trim_ascii())
 }
 
 /// The number of the first line, counted from 1, with a comment that looks like an expectation and
-/// isn't read as one: the comment is misspelt, or there is code before it.
+/// isn't read as one: the comment is misspelt, or there is code before it. `None` where there is
+/// none.
 pub fn expectation_lookalike(text: &[u8]) -> Option<u64> {
     let mut lines = text.split(|b| *b == b'\n').zip(1u64..);
-    let (_, number) = lines.find(|(line, _)| expect_words(line).is_none() && is_lookalike(line))?;
+    let (_, number) = lines.find(|(line, _)| expectation_words(line).is_none()
+        && is_lookalike(line))?;
     Some(number)
 }
 
 // Whether the comment of a line begins with a word like `expect`, of any case and with any ending,
-// and then comes a colon or an equals sign, or what an expectation has after its colon.
+// and after it comes a colon, an equals sign, or words that state a verdict.
 fn is_lookalike(line: &[u8]) -> bool {
     let Some(sign) = line.iter().position(|b| *b == b'#') else {
         return false;
@@ -121,10 +124,10 @@ fn is_lookalike(line: &[u8]) -> bool {
     word.eq_ignore_ascii_case(EXPECT) && (is_marked || expected_verdict(rest).is_some())
 }
 
-// How the word of an expectation begins, in lower case.
+// How a word like `expect` begins, in lower case.
 const EXPECT: &[u8] = b"expect";
 
-// A text without the bytes at its start that `trims` holds for.
+// A text without the bytes at its start for which `trims` is true.
 fn trim_start_matches<F: Fn(u8) -> bool>(text: &[u8], trims: F) -> &[u8]
     requires { (f : _) (x : _) → F.pre f x }
 {

@@ -1,13 +1,13 @@
-//! Suites: many guests searched one after the other, and what each was expected to be.
+//! Suites: many guests searched one after the other, each compared with what its text expects.
 //!
 //! - [`search`] makes the searches of a text: one without a bound, and where that doesn't say
-//!   enough one up to a bound. What it answers is told of the text, with a bad schedule of fewest
+//!   enough one up to a bound. It answers the search to report, with a bad schedule of fewest
 //!   preemptions where one could be found within the limit.
 //! - [`Expectation::of`] reads what a text's comments expect, [`expectation_lookalike`] which
 //!   comment may have been meant as an expectation.
-//! - An [`Entry`] is what became of one file, with its status. A [`Tally`] has the statuses of all,
-//!   and the status of the suite.
-//! - [`Table`] and [`json_line`] print a file.
+//! - An [`Entry`] is what became of one file, with its status. A [`Tally`] has the statuses of all
+//!   files, and the status of the suite.
+//! - [`Table`] and [`json_line`] print an entry, as a row of a table or as JSON.
 #![tactic(auto)]
 
 mod entry;

@@ -1,4 +1,4 @@
-//! The texts of a suite: a table for people, and JSON for programs, line by line.
+//! What is printed of the files of a suite, a line each: a table for people, or JSON for programs.
 
 use crate::entry::{Entry, Outcome};
 use crate::expectation::ExpectedVerdict;
@@ -27,7 +27,7 @@ pub struct Table {
 }
 
 impl Table {
-    /// The columns of a table of no file.
+    /// The columns of a table that has no file yet.
     pub fn new(alloc: Global) -> Table {
         Table {
             alloc,
@@ -46,7 +46,7 @@ impl Table {
         Ok(())
     }
 
-    /// The first line, which has the heads of the columns.
+    /// The first line of the table, which has the heads of the columns.
     ///
     /// # Errors
     ///
@@ -58,7 +58,8 @@ impl Table {
 
     /// The line of a file, in ASCII: its verdict, the bound of the search, the preemptions of the
     /// bad schedule and that schedule, how many schedules were tried, and a note where the verdict
-    /// isn't all that there is to say. Lines of the file are told by its marks.
+    /// isn't all that there is to say. Where the note names a line of the file, and a
+    /// preprocessor's `marks` say where that line came from, it names that place.
     ///
     /// # Errors
     ///
@@ -75,7 +76,8 @@ impl Table {
         self.line(file, [verdict, NOTHING, NOTHING, NOTHING, NOTHING], note)
     }
 
-    // The line of a file that was searched.
+    // The line of a file that was searched, with this note: the file, the cells of the search that
+    // is reported, and the note.
     fn searched_row(
         &self,
         file: &str,
@@ -102,8 +104,8 @@ impl Table {
         self.line(file, found, note)
     }
 
-    // A line: its cells, each at the start of its column or two blanks after the one before, with
-    // no blank after the last, which may be empty, and a line feed.
+    // A line of the table: its cells, each at the start of its column or two blanks after the one
+    // before, with no blank after the last, which may be empty, and a line feed.
     fn line(&self, file: &str, found: [&str; 5], note: &str) -> Result<Vec<u8>, AllocError> {
         let file_width = self.file_width;
         let [verdict, bound, preemptions, schedule, tried] = found;
@@ -114,7 +116,8 @@ impl Table {
     }
 }
 
-// The verdict of a search in a word: `bad`, `incomplete` or `clean`.
+// The verdict of a search in a word: `bad` where it found a bad schedule, even if it was cut short;
+// else `incomplete` where it was cut short, and `clean` where it wasn't.
 fn verdict_word(found: &Found) -> &'static str {
     match found.report.verdict {
         _ if found.bad.is_some() => "bad",
@@ -123,7 +126,7 @@ fn verdict_word(found: &Found) -> &'static str {
     }
 }
 
-// The cell of a number, or of none.
+// The cell of a table for a number, or a dash where there is none.
 fn number_cell(alloc: Global, number: Option<u32>) -> Result<String, AllocError> {
     match number {
         Some(number) => number.to_string(alloc),
@@ -131,7 +134,7 @@ fn number_cell(alloc: Global, number: Option<u32>) -> Result<String, AllocError>
     }
 }
 
-// A text with each byte that isn't printable ASCII, or is a backslash, as `\x` and two digits.
+// A text with each byte that isn't printable ASCII, or is a backslash, as `\x` and two hex digits.
 fn escaped(alloc: Global, text: &str) -> Result<String, AllocError> {
     let mut printed = String::new(alloc);
     for byte in text.as_bytes() {
@@ -144,7 +147,8 @@ fn escaped(alloc: Global, text: &str) -> Result<String, AllocError> {
     Ok(printed)
 }
 
-// The place of a line: `line 12`, or `worker.inc:12` where a mark says that it came from there.
+// How a note names a line of a file: `line 12`, or `worker.inc:12` where a preprocessor's mark says
+// that it came from there.
 fn line_text(alloc: Global, marks: &Marks, line: u64) -> Result<String, AllocError> {
     let line = u32::try_from(line).unwrap_or(u32::MAX);
     match marks.origin(line) {
@@ -156,7 +160,8 @@ fn line_text(alloc: Global, marks: &Marks, line: u64) -> Result<String, AllocErr
     }
 }
 
-// The text of a refusal, and after it the place that the marks give, where they give one.
+// The text of a refusal, and after it the place that its line came from, where a preprocessor's
+// marks tell it.
 fn refusal_text(alloc: Global, marks: &Marks, error: ExploreError) -> Result<String, AllocError> {
     let mut told = format!(in alloc; "{error}")?;
     if let Some(at) = place_of(error)
@@ -168,7 +173,7 @@ fn refusal_text(alloc: Global, marks: &Marks, error: ExploreError) -> Result<Str
     Ok(told)
 }
 
-// The place in the text that a refusal tells, if it tells one.
+// The place in the text that a refusal names; `None` where it names none.
 fn place_of(error: ExploreError) -> Option<Pos> {
     match error {
         ExploreError::Syntax(
@@ -190,11 +195,13 @@ fn place_of(error: ExploreError) -> Option<Pos> {
     }
 }
 
-// What there is to say of a file beside its verdict; lines of the file are told by its marks.
+// The note of a file: what there is to say beside its verdict, as remarks with semicolons between
+// them; empty where there is nothing. Where it names a line of the file, and a preprocessor's marks
+// say where that line came from, it names that place.
 fn note_of(alloc: Global, entry: &Entry, marks: &Marks) -> Result<String, AllocError> {
     let mut note = String::new(alloc);
     match &entry.outcome {
-        Outcome::Searched(searched) => put_search_notes(&mut note, entry, searched)?,
+        Outcome::Searched(searched) => put_search_remarks(&mut note, entry, searched)?,
         Outcome::Refused(error) => put_remark(&mut note, refusal_text(alloc, marks, *error)?)?,
         Outcome::Unclear(line) => {
             let line = line_text(alloc, marks, *line)?;
@@ -213,15 +220,15 @@ fn note_of(alloc: Global, entry: &Entry, marks: &Marks) -> Result<String, AllocE
     Ok(note)
 }
 
-// Puts a remark at the end of a note, after a semicolon where the note has others.
+// Puts a remark at the end of a note, after a semicolon where the note isn't empty.
 fn put_remark<D: fmt::Display + Drop>(note: &mut String, remark: D) -> Result<(), AllocError> {
     let sign = if note.is_empty() { "" } else { "; " };
     write!(note, "{sign}{remark}")
 }
 
-// Puts the remarks on a file that was searched at the end of a note: what is to be said of its
-// expectation, and of how far the search went.
-fn put_search_notes(
+// Puts the remarks on a file that was searched at the end of its note: whether what it expects was
+// found, and what the search leaves open, where it leaves something open.
+fn put_search_remarks(
     note: &mut String,
     entry: &Entry,
     searched: &SearchResult,
@@ -243,8 +250,9 @@ fn put_search_notes(
 }
 
 /// The JSON of a file, an object and a line feed: `file`, `expect` (the words, or null), `status`
-/// and `note`, and then the members of its report, or `fault`, which says why there is none. Lines
-/// of the file are told by its marks.
+/// and `note`, and then the members of its report, or `fault`, which says why there is none. Where
+/// the note names a line of the file, and a preprocessor's `marks` say where that line came from,
+/// it names that place.
 ///
 /// # Errors
 ///

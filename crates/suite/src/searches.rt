@@ -1,4 +1,4 @@
-//! The searches of one text, and what is told of them.
+//! The searches of one text, and which of them is reported.
 
 ghost use Rattle.std.specs.Prelude.{◌≡◌};
 ghost use Rattle.suite.specs.Suites.{SearchMeans, is_enough, second_bound, told_search};
@@ -13,21 +13,21 @@ use verify::{BadSchedule, Found, program_of, run_search};
 /// What the searches of a text show.
 #[derive(Drop)]
 pub struct SearchResult {
-    /// The search that is told of the text.
+    /// The search that is reported, of one or two that were made.
     pub found: Found,
     /// No bad schedule has fewer preemptions than this.
     pub clear: u64,
 }
 
-/// What is told of a text: of the search without a bound, where that comes to its end and finds no
-/// bad schedule, or one without a preemption. Else a second search is made: up to as many
-/// preemptions as the schedule has that the first one found, so that one with fewest is told, or up
-/// to the limits' bound where it found none. The second is told, unless the first alone found a bad
-/// schedule.
+/// Searches the guest program of a text, once or twice, and answers the search to report. The first
+/// search has no bound. Where it comes to its end and finds no bad schedule, or one without a
+/// preemption, it is reported. Else a second search is made: up to as many preemptions as the bad
+/// schedule of the first has, so that one with fewest is reported, or up to the limits' bound where
+/// the first found none. The second is reported, unless only the first found a bad schedule.
 ///
 /// # Errors
 ///
-/// What is wrong with the text, or `OutOfMemory`.
+/// What is wrong with the text, or `OutOfMemory` where memory runs out.
 #[tactic(auto, using(crate::proofs::OneOrTwo::one_search, crate::proofs::OneOrTwo::two_searches))]
 pub fn search<G: Gate, R>(
     rt: &R,
@@ -50,11 +50,12 @@ where
     let bound = second_bound(limits.bound, &first.bad);
     let second = run_search(rt, &program, Search::UpTo(bound), limits, gate)?;
     let clear = second.clean_below();
-    let found = told_search(first, second);
+    let found = reported_search(first, second);
     Ok(SearchResult { found, clear })
 }
 
-// Whether the first search, which is without a bound, says all that is to be told of a text.
+// Whether the first search of a text, which has no bound, makes a second needless: it wasn't cut
+// short, and found no bad schedule, or one without a preemption.
 fn is_enough(first: &Found) -> bool
     ensures { result ≡ is_enough first.now.report.verdict first.now.bad }
 {
@@ -65,7 +66,8 @@ fn is_enough(first: &Found) -> bool
     !matches!(&first.report.verdict, Verdict::Incomplete { .. }) && needs_none
 }
 
-// The bound of the second search: the preemptions of the first's bad schedule, or else `bound`.
+// The bound of the second search of a text: as many preemptions as the bad schedule `bad` of the
+// first has, at most `BOUND`; where the first found none, `bound`.
 fn second_bound(bound: u32, bad: &Option<BadSchedule>) -> u32
     ensures { result ≡ second_bound bound bad.now }
 {
@@ -75,8 +77,8 @@ fn second_bound(bound: u32, bad: &Option<BadSchedule>) -> u32
     }
 }
 
-// The search that is told of a text: the second, unless the first alone found a bad schedule.
-fn told_search(first: Found, second: Found) -> Found
+// The search to report, of two of a text: the second, unless only the first found a bad schedule.
+fn reported_search(first: Found, second: Found) -> Found
     ensures { result ≡ told_search first second }
 {
     if second.bad.is_none() && first.bad.is_some() {

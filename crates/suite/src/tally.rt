@@ -6,14 +6,14 @@ ghost use Rattle.suite.specs.Statuses.{IsWorst};
 use std::alloc::{AllocError, Global};
 use std::fmt;
 
-/// The statuses of the files that are done.
+/// The statuses of the files of a suite that are done.
 #[derive(Debug, Drop)]
 pub struct Tally {
     statuses: Vec<u8>,
 }
 
 impl Tally {
-    /// The tally of no file.
+    /// A tally of no files.
     pub fn new(alloc: Global) -> Tally
         ensures { result.statuses.items ≡ [] }
     {
@@ -55,7 +55,7 @@ impl Tally {
     }
 }
 
-/// How many files there are, and how many of them have which status, in words.
+/// How many files there are, and how many of them have each status, in words.
 impl fmt::Display for Tally {
     fn fmt<W: fmt::Write>(&self, f: &mut fmt::Formatter<W>) -> fmt::Result {
         let files = self.statuses.len();

@@ -56,7 +56,7 @@ pub fn views_are_sorted()
         Contains (sum_of p L).ends v ↔ Contains (map (end_of p) L) v }
 {}
 
-/// Each sum is what a summary keeps.
+/// Each sum, beyond a bound or not, is the value that a summary may have.
 pub fn sums_are_summaries()
     ensures { (p : Program) (L : List (List ℕ)) (b : Bool) →
         IsSummary (with_beyond (sum_of p L) b) }
@@ -79,7 +79,7 @@ pub fn join_with_nothing()
     ensures { (a : SummaryView) → IsSummary a → join a nothing ≡ a }
 {}
 
-/// A join counts what was counted in either, up to the greatest `u64`.
+/// The counts of a join are the sums of the counts of both summaries, up to the greatest `u64`.
 pub fn joins_add_up()
     ensures tried { (a b : SummaryView) →
         a.tried + b.tried ≤ greatest_count → (join a b).tried ≡ a.tried + b.tried }
@@ -89,7 +89,7 @@ pub fn joins_add_up()
         a.stuck + b.stuck ≤ greatest_count → (join a b).stuck ≡ a.stuck + b.stuck }
 {}
 
-/// A join is of what either is of: it is beyond where one is, has the lesser of two first bad
+/// The join of two summaries is beyond where one of them is, has the lesser of their first bad
 /// schedules, and the views of both, strictly sorted.
 pub fn joins_have_both()
     ensures beyond { (a b : SummaryView) → (join a b).beyond ≡ (a.beyond || b.beyond) }

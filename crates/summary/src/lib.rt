@@ -10,7 +10,7 @@
 //!   and that there is a first bad schedule exactly where one failed or got stuck.
 //! - [`Summary::from_parts`] makes one exactly where its parts fit.
 //! - [`Summary::add`] counts one schedule more, [`Summary::join`] joins two summaries as their
-//!   lists would be, and [`Summary::join_in_by`] does so in place. Where memory runs out, the
+//!   lists would be, and [`Summary::join_in`] does so in place. Where memory runs out, the
 //!   summary is as before.
 //! - [`laws`] says of the definitions that the sum of a list followed by another is the join of
 //!   their sums, that a join may be made in any order, and what a sum counts and keeps.
@@ -20,9 +20,9 @@
 //! hint is right, or that memory is used again.
 #![tactic(auto)]
 
-mod hints;
+mod end_memory;
 pub mod laws;
 mod summary;
 
-pub use crate::hints::{EndHints, EndMemory};
+pub use crate::end_memory::{EndHints, EndMemory};
 pub use crate::summary::{Counts, Summary};

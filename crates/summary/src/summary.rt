@@ -8,14 +8,14 @@ ghost use Rattle.semantics.specs.View.{is_bad, view_cmp};
 ghost use Rattle.summary.specs.Summaries.{SummaryView, IsSummary, summary_of, schedule_view, cut, nothing, is_failed, is_stuck, with_view, sorted_views, join, with_beyond, added, counted_if, first_bad_with, end_with};
 ghost use Rattle.summary.specs.inner.EndPlaces.{IsPlaceOf};
 
-use crate::hints::{EndHints, EndMemory};
+use crate::end_memory::{EndHints, EndMemory};
 use semantics::view::{EndView, Kind};
 use std::alloc::{AllocError, Global};
 use std::cmp::Ordering;
 use std::marker::Model;
 
 // For how many end views a summary has room at first: that of a small item has one to three.
-const FEW_ENDS: usize = 3;
+const INITIAL_CAPACITY: usize = 3;
 
 /// What is known of a list of complete schedules. Counts stop at the greatest `u64`.
 #[derive(Drop)]
@@ -33,9 +33,9 @@ pub struct Summary {
 pub struct Counts {
     /// How many were tried.
     pub tried: u64,
-    /// How many of them failed.
+    /// How many of the tried ones failed.
     pub failed: u64,
-    /// How many of them got stuck.
+    /// How many of the tried ones got stuck.
     pub stuck: u64,
 }
 
@@ -65,8 +65,8 @@ impl Summary {
         }
     }
 
-    /// The summary of these parts, where a summary may have them: the end views are strictly sorted,
-    /// and there is a first bad schedule exactly where one failed or got stuck.
+    /// The summary of these parts, where a summary may have them: the end views are strictly
+    /// sorted, and there is a first bad schedule exactly where one failed or got stuck.
     pub fn from_parts(
         counts: Counts,
         beyond: bool,
@@ -91,12 +91,12 @@ impl Summary {
         })
     }
 
-    /// Forgets all schedules, and gives the end views to this memory.
+    /// Forgets all schedules, and gives the end views to the memory, to be used again.
     pub fn clear(&mut self, memory: &mut EndMemory)
         ensures { self.new ≡ nothing }
     {
         self.forget_beyond();
-        memory.take_in(&mut self.ends);
+        memory.recycle(&mut self.ends);
         reset(&mut self.tried);
         reset(&mut self.failed);
         reset(&mut self.stuck);
@@ -110,14 +110,14 @@ impl Summary {
         self.tried
     }
 
-    /// How many of them failed.
+    /// How many of the schedules failed.
     pub fn failed(&self) -> u64
         ensures { result ≡ self.now.failed }
     {
         self.failed
     }
 
-    /// How many of them got stuck.
+    /// How many of the schedules got stuck.
     pub fn stuck(&self) -> u64
         ensures { result ≡ self.now.stuck }
     {
@@ -131,7 +131,7 @@ impl Summary {
         self.beyond
     }
 
-    /// The least of those that failed or got stuck.
+    /// The least of the schedules that failed or got stuck, if any.
     pub fn first_bad(&self) -> Option<&[u8]>
         ensures { MatchOption result
             (self.now.first_bad ≡ None) (λ w. self.now.first_bad ≡ Some w.now) }
@@ -142,7 +142,7 @@ impl Summary {
         }
     }
 
-    /// How they ended: the end views by kind and then by the values of the variables, each once.
+    /// How the schedules ended: the end views, by kind, then by the variables' values, each once.
     pub fn ends(&self) -> &[EndView]
         ensures ends { result.now ≡ self.now.ends }
         ensures kept { IsSummary self.now }
@@ -190,41 +190,37 @@ impl Summary {
 
     /// Joins another summary in, in place: what [`Summary::join`] answers. Nothing is cloned, and
     /// nothing is allocated where the other has no end view that is new. Hints tell at which index
-    /// an end view was found in earlier joins; they may be wrong. Of the other summary its memory
-    /// is left: what it is then is not said.
+    /// an end view was found in earlier joins, and may be wrong. The other summary is left with its
+    /// memory; what its value is then is not said.
     ///
     /// # Errors
     ///
     /// `AllocError` where memory runs out; both summaries are then as before.
     #[tactic(auto, unfolding(crate::specs::Summaries::join))]
-    pub fn join_in_by(
-        &mut self,
-        hints: &mut EndHints,
-        other: &mut Summary,
-    ) -> Result<(), AllocError>
+    pub fn join_in(&mut self, hints: &mut EndHints, other: &mut Summary) -> Result<(), AllocError>
         ensures joined { self.new ≡ (if is_ok result then join self.old other.old else self.old) }
         ensures other { OnErr result (other.new ≡ other.old) }
     {
         join_views(&mut self.ends, hints, &mut other.ends)?;
         take_lesser(&mut self.first_bad, other.first_bad.take());
-        increase(&mut self.tried, other.tried);
-        increase(&mut self.failed, other.failed);
-        increase(&mut self.stuck, other.stuck);
+        raise_count(&mut self.tried, other.tried);
+        raise_count(&mut self.failed, other.failed);
+        raise_count(&mut self.stuck, other.stuck);
         self.beyond = self.beyond || other.beyond;
         reset(&mut other.failed);
         reset(&mut other.stuck);
         Ok(())
     }
 
-    /// Forgets that some schedule is beyond the bound, for a bound that is raised.
+    /// Forgets that some schedule has more preemptions than the bound, for a bound that is raised.
     pub fn forget_beyond(&mut self)
         ensures { self.new ≡ with_beyond self.old false }
     {
         self.beyond = false;
     }
 
-    /// Counts one more complete schedule, which ends so, in place. Mostly its view stands where a
-    /// hint says.
+    /// Counts one more complete schedule, which ends with this kind and these values. Mostly the
+    /// end view stands where a hint says.
     ///
     /// # Errors
     ///
@@ -242,18 +238,18 @@ impl Summary {
         ensures { self.new ≡ (if is_ok result
             then added self.old schedule.now (end_with kind values.now) else self.old) }
     {
-        let hint = memory.hints.hint_in(self.ends.len(), kind, values);
+        let hint = memory.hints.hint_for(self.ends.len(), kind, values);
         if !kind.is_bad() && stands_at(self.ends.as_slice(), hint, kind, values) {
-            increase(&mut self.tried, 1);
+            raise_count(&mut self.tried, 1);
             return Ok(());
         }
-        self.add_apart(alloc, memory, schedule, kind, values)
+        self.add_bad_or_new(alloc, memory, schedule, kind, values)
     }
 
-    // Counts a schedule whose end may be bad or new.
+    // Counts one more complete schedule, whose end may be bad, and its end view new.
     #[inline(never)]
     #[tactic(auto, unfolding(crate::specs::Summaries::added))]
-    fn add_apart(
+    fn add_bad_or_new(
         &mut self,
         alloc: Global,
         memory: &mut EndMemory,
@@ -266,14 +262,14 @@ impl Summary {
     {
         let better = lesser_bad(alloc, &self.first_bad, schedule, kind)?;
         add_view(alloc, &mut self.ends, memory, kind, values)?;
-        replace_by(&mut self.first_bad, better);
-        increase(&mut self.tried, 1);
+        replace_if_some(&mut self.first_bad, better);
+        raise_count(&mut self.tried, 1);
         count_if(is_failed(kind), &mut self.failed);
         count_if(is_stuck(kind), &mut self.stuck);
         Ok(())
     }
 
-    /// Some schedule is beyond the bound.
+    /// Notes that some schedule has more preemptions than the bound.
     pub fn set_beyond(&mut self)
         ensures { self.new ≡ with_beyond self.old true }
     {
@@ -281,49 +277,51 @@ impl Summary {
     }
 }
 
+// Whether a schedule of this kind failed.
 fn is_failed(kind: Kind) -> bool
     ensures { result ≡ is_failed kind }
 {
     matches!(kind, Kind::Failed)
 }
 
+// Whether a schedule of this kind got stuck.
 fn is_stuck(kind: Kind) -> bool
     ensures { result ≡ is_stuck kind }
 {
     matches!(kind, Kind::Stuck)
 }
 
-// Whether end views are strictly sorted.
+// Whether end views are strictly sorted: in order, each once.
 fn are_sorted(ends: &[EndView]) -> bool
     ensures { IsTrue result ↔ IsStrictlySortedBy view_cmp ends.now }
 {
     ends.is_sorted_by(|end, next| end.compare(next).is_lt())
 }
 
-// So many more.
-fn increase(count: &mut u64, more: u64)
+// Raises a count by `more`, up to the greatest `u64`.
+fn raise_count(count: &mut u64, more: u64)
     ensures { count.new ≡ cut (count.old + more) }
 {
     *count = count.saturating_add(more);
 }
 
-// None any more.
+// Sets a count to 0.
 fn reset(count: &mut u64)
     ensures { count.new ≡ 0 }
 {
     *count = 0;
 }
 
-// One more, where it is to be counted.
+// Raises a count by 1, where `counted` is true.
 fn count_if(counted: bool, count: &mut u64)
     ensures { count.new ≡ counted_if counted count.old }
 {
     if counted {
-        increase(count, 1);
+        raise_count(count, 1);
     }
 }
 
-// A copy of a schedule that ends so, where it comes before the first bad one.
+// A copy of a schedule that ends with this kind, where it is bad and precedes the first bad one.
 fn lesser_bad(
     alloc: Global,
     first: &Option<Vec<u8>>,
@@ -340,7 +338,7 @@ fn lesser_bad(
     }
 }
 
-// Whether a schedule comes before another, where there is another.
+// Whether a schedule comes before the first one; where there is no first one yet, it does.
 fn comes_first(schedule: &[u8], first: &Option<Vec<u8>>) -> bool
     ensures { lesser (schedule_view first.now) (Some schedule.now)
         ≡ (if result then Some schedule.now else schedule_view first.now) }
@@ -351,8 +349,8 @@ fn comes_first(schedule: &[u8], first: &Option<Vec<u8>>) -> bool
     }
 }
 
-// Puts a schedule in place of another, where there is one to put.
-fn replace_by(first: &mut Option<Vec<u8>>, better: Option<Vec<u8>>)
+// Puts the better schedule in place of the first one, where there is a better one.
+fn replace_if_some(first: &mut Option<Vec<u8>>, better: Option<Vec<u8>>)
     ensures { schedule_view first.new ≡ option_or (schedule_view better) (schedule_view first.old) }
 {
     match better {
@@ -363,7 +361,7 @@ fn replace_by(first: &mut Option<Vec<u8>>, better: Option<Vec<u8>>)
     }
 }
 
-// The lesser of two schedules, in place of the first; one that is there where the other isn't.
+// Puts the other schedule in place of the first one, where it is the lesser or the only one.
 fn take_lesser(first: &mut Option<Vec<u8>>, other: Option<Vec<u8>>)
     ensures { schedule_view first.new ≡ lesser (schedule_view first.old) (schedule_view other) }
 {
@@ -385,7 +383,7 @@ fn precedes(first: &[u8], second: &[u8]) -> bool
     first.cmp(&second) == Ordering::Less
 }
 
-// The lesser of a schedule, where there is one, and another.
+// The first schedule, or a copy of the other where that is the lesser or the only one.
 fn keep_lesser(
     alloc: Global,
     first: Option<Vec<u8>>,
@@ -405,7 +403,7 @@ fn keep_lesser(
     }
 }
 
-// An equal schedule, where there is one.
+// A copy of a schedule, where there is one.
 fn copy_schedule(alloc: Global, schedule: &Option<Vec<u8>>) -> Result<Option<Vec<u8>>, AllocError>
     ensures { IfOk result (λ v. schedule_view v ≡ schedule_view schedule.now) }
 {
@@ -415,7 +413,7 @@ fn copy_schedule(alloc: Global, schedule: &Option<Vec<u8>>) -> Result<Option<Vec
     }
 }
 
-// The lesser of two schedules; one that is there where the other isn't.
+// A copy of the lesser of two schedules, or of the only one there is.
 fn lesser_of(
     alloc: Global,
     first: &Option<Vec<u8>>,
@@ -431,7 +429,7 @@ fn lesser_of(
     }
 }
 
-// Where the view of a kind and values stands in a sorted list, or the index at which it belongs.
+// The index at which the view of a kind and values stands in a sorted list, or else belongs.
 fn search_view(ends: &[EndView], kind: Kind, values: &[i64]) -> Result<usize, usize>
     requires { IsStrictlySortedBy view_cmp ends.now }
     ensures { IsPlaceOf (end_with kind values.now) ends.now result }
@@ -439,7 +437,7 @@ fn search_view(ends: &[EndView], kind: Kind, values: &[i64]) -> Result<usize, us
     ends.binary_search_by(|end| EndView::compare_parts(kind, values, end).reverse())
 }
 
-// Where the view of a kind and values stands or belongs: at the hint's place, if the hint is right.
+// Where the view of a kind and values stands or belongs in a sorted list, by a hint if it is right.
 fn find_view(
     ends: &[EndView],
     hints: &mut EndHints,
@@ -449,13 +447,13 @@ fn find_view(
     requires { IsStrictlySortedBy view_cmp ends.now }
     ensures { IsPlaceOf (end_with kind values.now) ends.now result }
 {
-    let hint = hints.hint_in(ends.len(), kind, values);
+    let hint = hints.hint_for(ends.len(), kind, values);
     if stands_at(ends, hint, kind, values) {
         return Ok(hint);
     }
     let found = search_view(ends, kind, values);
     match found {
-        Ok(index) | Err(index) => hints.keep(EndHints::place_of(kind, values), index),
+        Ok(index) | Err(index) => hints.set_hint(EndHints::place_of(kind, values), index),
     }
     found
 }
@@ -486,14 +484,14 @@ fn add_view(
         then with_view (end_with kind values.now) ends.old.items else ends.old.items) }
 {
     if ends.is_empty() {
-        ends.reserve_exact(FEW_ENDS)?;
-        ends.push(memory.view(alloc, kind, values)?)?;
+        ends.reserve_exact(INITIAL_CAPACITY)?;
+        ends.push(memory.make_view(alloc, kind, values)?)?;
         return Ok(());
     }
     match find_view(ends.as_slice(), &mut memory.hints, kind, values) {
         Ok(_) => Ok(()),
         Err(index) => {
-            ends.insert(index, memory.view(alloc, kind, values)?)?;
+            ends.insert(index, memory.make_view(alloc, kind, values)?)?;
             Ok(())
         }
     }
@@ -517,7 +515,7 @@ fn insert_view(ends: &mut Vec<EndView>, view: EndView) -> Result<(), AllocError>
     }
 }
 
-// Whether each of these views is in a sorted list.
+// Whether each of `views` is in the sorted list `ends`.
 fn has_all(ends: &[EndView], hints: &mut EndHints, views: &[EndView]) -> bool
     requires { IsStrictlySortedBy view_cmp ends.now }
     ensures { IsTrue result → sorted_views (ends.now ++ views.now) ≡ ends.now }
@@ -531,8 +529,8 @@ fn has_all(ends: &[EndView], hints: &mut EndHints, views: &[EndView]) -> bool
     true
 }
 
-// Puts views into a sorted list: sorted, each once. Their own list is emptied, but where all of them
-// are there.
+// Puts `views` where they belong in the sorted list `ends`, each once. Then `views` is emptied, but
+// not where all of them were there.
 fn join_views(
     ends: &mut Vec<EndView>,
     hints: &mut EndHints,
@@ -554,7 +552,7 @@ fn join_views(
     Ok(())
 }
 
-// Equal views.
+// A copy of a list of end views.
 fn copy_views(alloc: Global, views: &[EndView]) -> Result<Vec<EndView>, AllocError>
     ensures { IfOk result (λ v. v.items ≡ views.now) }
 {
@@ -565,7 +563,7 @@ fn copy_views(alloc: Global, views: &[EndView]) -> Result<Vec<EndView>, AllocErr
     Ok(copies)
 }
 
-// The views of two lists, the first of them sorted: sorted, each once.
+// The views of two lists, the first of which is sorted, as one sorted list that has each once.
 fn views_of_both(
     alloc: Global,
     first: &[EndView],

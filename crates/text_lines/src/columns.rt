@@ -1,26 +1,26 @@
-//! The columns of a table.
+//! The columns of the table of a schedule's steps. Widths and places are in characters.
 
 use crate::file_line::FileLine;
-use crate::put_cut;
+use crate::put_truncated;
 use std::alloc::{AllocError, Global};
 
-// Columns of a table's lines, at least.
+// The least width of a table.
 const LEAST_WIDTH: usize = 40;
-// Columns of a table's lines, at most.
+// The greatest width of a table.
 const GREATEST_WIDTH: usize = 1_000;
-/// Columns of the numbers of steps, after which the lines of the text begin.
+/// Where the column of the lines begins, after the numbers of the steps and a blank.
 pub const STEP: usize = 5;
-// Columns of the line of the text that a step is in, at least.
+// The least width of the column that has the line of each step's statement.
 const LEAST_LINE_WIDTH: usize = 4;
-// Columns of the line of the text that a step is in, at most.
+// The greatest width of the column that has the line of each step's statement.
 const GREATEST_LINE_WIDTH: usize = 24;
-/// Columns of a thread that has a column of its own.
+/// The width of the column of a thread that has one of its own.
 pub const COLUMN: usize = 13;
-// Columns of the column that threads share, at most.
+// The greatest width of the column that threads share.
 const SHARED_WIDTH: usize = 28;
 /// Blanks between two columns.
 pub const GAP: usize = 2;
-// Columns of what a step changed, at least, where threads have columns of their own.
+// The least width of the column of what a step changed, where threads have columns of their own.
 const CHANGES_WIDTH: usize = 29;
 
 /// Where each column of a table begins.
@@ -32,14 +32,17 @@ pub struct Columns {
     pub margin: usize,
     /// How many threads have a column of their own, the first ones.
     pub own: usize,
-    /// Whether all other threads share one column.
+    /// Whether there are other threads: they share one column.
     pub is_shared: bool,
     /// Where the column of what a step changed begins.
     pub changes: usize,
 }
 
 impl Columns {
-    /// The columns of a table `width` wide for `threads` threads, with line cells up to `line` wide.
+    /// The columns of a table for `threads` threads, `width` wide, with cells up to `line` wide
+    /// that have the lines of statements. The first threads, as many as fit, have columns of their
+    /// own, and all others share one. A width that is too small or too great counts as the least or
+    /// the greatest.
     pub fn new(width: usize, threads: usize, line: usize) -> Columns {
         let width = width.max(LEAST_WIDTH).min(GREATEST_WIDTH);
         let margin = STEP + line.max(LEAST_LINE_WIDTH).min(GREATEST_LINE_WIDTH) + GAP;
@@ -64,7 +67,7 @@ impl Columns {
         columns
     }
 
-    /// Where the column of a thread begins, its own or the one that it shares.
+    /// Where the column of a thread begins, its own one or the shared one. Threads count from 0.
     pub fn start(&self, thread: usize) -> usize {
         let column = thread.min(self.own);
         column
@@ -72,14 +75,14 @@ impl Columns {
             .saturating_add(self.margin)
     }
 
-    /// Where the columns of the threads end.
+    /// Where the last of the columns of threads ends, without the gap after it.
     pub fn end(&self) -> usize {
         self.changes.saturating_sub(GAP)
     }
 }
 
-/// A line of a file as a table has it: the file's name without folders, cut off where that is wide,
-/// and the number.
+/// The cell of a table for a line of a file: `name:12`, the name without folders and cut off where
+/// it is too long for the column; the number alone where the name isn't to be printed.
 pub fn line_cell(alloc: Global, line: FileLine<'_>) -> Result<String, AllocError> {
     let number = format!(in alloc; "{}", line.line)?;
     if !line.is_named {
@@ -87,7 +90,7 @@ pub fn line_cell(alloc: Global, line: FileLine<'_>) -> Result<String, AllocError
     }
     let name = line.file.rsplit('/').next().unwrap_or("");
     let mut cell = String::new(alloc);
-    put_cut(
+    put_truncated(
         &mut cell,
         name,
         GREATEST_LINE_WIDTH

@@ -1,4 +1,4 @@
-//! Lines of files, in words.
+//! A line of a file, as it is printed: with the name of the file or without.
 
 use std::fmt;
 
@@ -14,7 +14,7 @@ pub struct FileLine<'a> {
 }
 
 impl FileLine<'_> {
-    /// The line, to be printed with the name of its file.
+    /// The same line, to be printed with the name of its file.
     pub fn with_name(self) -> Self {
         FileLine {
             file: self.file,

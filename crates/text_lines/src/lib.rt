@@ -1,5 +1,5 @@
-//! Text in lines of a width: rows of columns, and words that go on in further lines where they don't
-//! fit. And where the lines of a text come from that a preprocessor wrote.
+//! Text in lines of a width: rows of columns, and words that go on in further lines where they
+//! don't fit. And where the lines of a text come from that a preprocessor wrote.
 #![tactic(auto)]
 
 mod columns;
@@ -13,7 +13,8 @@ pub use crate::marks::{Marks, Origin};
 use std::alloc::{AllocError, Global};
 use std::fmt;
 
-/// A text, no line of which is wider than this many columns.
+/// A text that is written line by line. Words that don't fit into its width go on in further lines.
+/// Each character takes one column.
 #[derive(Drop)]
 pub struct Page {
     text: String,
@@ -21,7 +22,7 @@ pub struct Page {
 }
 
 impl Page {
-    /// A page without a line, for lines of at most this many columns.
+    /// A page without a line, for lines of at most `width` columns.
     pub fn new(alloc: Global, width: usize) -> Page {
         Page {
             text: String::new(alloc),
@@ -35,22 +36,23 @@ impl Page {
     }
 
     /// Adds an empty line.
-    pub fn put_blank(&mut self) -> Result<(), AllocError> {
+    pub fn put_empty_line(&mut self) -> Result<(), AllocError> {
         self.text.push('\n')
     }
 
     /// Adds a line as it is, however wide.
-    pub fn put_whole(&mut self, line: &str) -> Result<(), AllocError> {
+    pub fn put_unwrapped(&mut self, line: &str) -> Result<(), AllocError> {
         self.text.push_str(line)?;
         self.text.push('\n')
     }
 
-    /// Adds words as a line. What doesn't fit goes into further lines, from the column `indent` on.
+    /// Adds words as a line. What doesn't fit goes to further lines, from column `indent` on.
     pub fn put_line(&mut self, words: &str, indent: usize) -> Result<(), AllocError> {
         self.put_columns("", words, 0, indent)
     }
 
-    /// Adds words from column `start` on. What doesn't fit goes into further lines, from `indent` on.
+    /// Adds words as a line, from column `start` on. What doesn't fit goes to further lines, from
+    /// column `indent` on.
     pub fn put_indented(
         &mut self,
         words: &str,
@@ -60,8 +62,8 @@ impl Page {
         self.put_columns("", words, start, indent)
     }
 
-    /// Adds a line of two columns: the second begins at the column `start`, or one space after the first
-    /// where that is longer. What doesn't fit goes into further lines, from the column `indent` on.
+    /// Adds a line of two columns: the second begins at the column `start`, or one space after the
+    /// first where that is longer. What doesn't fit goes to further lines, from column `indent` on.
     pub fn put_columns(
         &mut self,
         first: &str,
@@ -80,7 +82,8 @@ impl Page {
         self.text.push('\n')
     }
 
-    // Adds words to a line that has `from` columns, and to further lines from the column `indent` on.
+    // Adds words to the last line, which has `from` columns. What doesn't fit goes to further
+    // lines, from column `indent` on.
     fn put_words(&mut self, words: &str, from: usize, indent: usize) -> Result<(), AllocError> {
         let mut column = from;
         let mut gap = 0;
@@ -89,7 +92,7 @@ impl Page {
             if !word.is_empty() {
                 let end = column.saturating_add(gap).saturating_add(width_of(word));
                 if !is_first && end > self.width {
-                    self.put_break(indent)?;
+                    self.put_line_break(indent)?;
                     column = indent;
                 } else {
                     self.put_spaces(gap)?;
@@ -104,12 +107,13 @@ impl Page {
         Ok(())
     }
 
-    // Adds a word from column `from` on, broken where it is too long. The answer is the column after it.
+    // Adds a word to the last line, which has `from` columns. What doesn't fit goes to further
+    // lines, from column `indent` on. Answers how many columns the last line has then.
     fn put_word(&mut self, word: &str, from: usize, indent: usize) -> Result<usize, AllocError> {
         let mut column = from;
         for letter in word.chars() {
             if column >= self.width {
-                self.put_break(indent)?;
+                self.put_line_break(indent)?;
                 column = indent;
             }
             self.text.push(letter)?;
@@ -118,40 +122,41 @@ impl Page {
         Ok(column)
     }
 
-    // Begins a new line, with this many spaces.
-    fn put_break(&mut self, indent: usize) -> Result<(), AllocError> {
+    // Ends the last line, and begins a new one with `indent` spaces.
+    fn put_line_break(&mut self, indent: usize) -> Result<(), AllocError> {
         self.text.push('\n')?;
         self.put_spaces(indent)
     }
 
     // Adds as many spaces as `spaces` says.
     fn put_spaces(&mut self, spaces: usize) -> Result<(), AllocError> {
-        put_times(&mut self.text, ' ', spaces)
+        put_repeated(&mut self.text, ' ', spaces)
     }
 }
 
-/// How many columns a text has.
+/// How many columns a text takes: one for each of its characters.
 pub fn width_of(text: &str) -> usize {
     text.chars().count()
 }
 
-/// Adds a letter to a text as often as `times` says.
-pub fn put_times(text: &mut String, letter: char, times: usize) -> Result<(), AllocError> {
+/// Adds a character to a text as often as `times` says.
+pub fn put_repeated(text: &mut String, letter: char, times: usize) -> Result<(), AllocError> {
     for _ in 0..times {
         text.push(letter)?;
     }
     Ok(())
 }
 
-/// Adds spaces to a row up to a column, but one at least where the row isn't empty.
+/// Adds spaces to a row until it has `column` columns, but at least one where it isn't empty.
 pub fn pad_to(row: &mut String, column: usize) -> Result<(), AllocError> {
     let least = usize::from(!row.is_empty());
     let spaces = column.saturating_sub(width_of(row.as_str())).max(least);
-    put_times(row, ' ', spaces)
+    put_repeated(row, ' ', spaces)
 }
 
-/// Adds a word to a row, cut off with two dots where the word has more than so many columns.
-pub fn put_cut(row: &mut String, word: &str, columns: usize) -> Result<(), AllocError> {
+/// Adds a word to a row. Of a word of more than `columns` columns it adds the beginning and two
+/// dots, together that many columns.
+pub fn put_truncated(row: &mut String, word: &str, columns: usize) -> Result<(), AllocError> {
     if width_of(word) <= columns {
         return row.push_str(word);
     }
@@ -161,7 +166,7 @@ pub fn put_cut(row: &mut String, word: &str, columns: usize) -> Result<(), Alloc
     row.push_str("..")
 }
 
-/// A number and the word for one of what is counted, printed as `1 step` or `2 steps`.
+/// A number and the singular of what is counted, printed as `1 step` or `2 steps`.
 #[derive(Clone, Copy)]
 pub struct Count<'a>(pub usize, pub &'a str);
 

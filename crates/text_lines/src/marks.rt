@@ -1,4 +1,4 @@
-//! The marks by which a preprocessor says where lines come from.
+//! The marks (line markers) by which a preprocessor says where the lines of its output come from.
 
 ghost use Rattle.std.specs.Prelude.{◌≡◌, ◌≤◌, ◌==◌, IfOk, MatchOption, List, None, length, map, option_map};
 ghost use Rattle.std.specs.List.{list_all, prefix_len, slice_split};
@@ -11,7 +11,7 @@ use std::alloc::{AllocError, Global};
 use std::rc::Rc;
 use std::str::from_utf8;
 
-/// A line of a file.
+/// The line of a file from which a line of a text comes.
 #[derive(Drop)]
 pub struct Origin {
     // The name of the file, as a mark has it.
@@ -46,22 +46,23 @@ pub struct Marks {
     has_several_files: bool,
 }
 
-// A mark: the line and the file that a comment names; no file is that of the mark before.
+// What a mark says: from which line of which file the next line comes. An empty name stands for the
+// file of the mark before.
 #[derive(Clone, Copy)]
 struct Mark<'a> {
     file: &'a [u8],
     line: u32,
 }
 
-// What comes after the bytes `first` in a text that begins with them; none where it doesn't.
-fn after<'a>(first: &[u8], text: &'a [u8]) -> Option<&'a [u8]>
+// What comes after the bytes `first` in a text; `None` where the text doesn't begin with them.
+fn strip_prefix<'a>(first: &[u8], text: &'a [u8]) -> Option<&'a [u8]>
     ensures { MatchOption result (after first.now text.now ≡ None)
         (λ rest. after first.now text.now ≡ Some rest.now) }
 {
     text.strip_prefix(first)
 }
 
-// The number that digits write; for one that is too large, the largest of 32 bits.
+// The number that decimal digits spell; where it is too large, the largest of 32 bits.
 fn number_of(digits: &[u8]) -> u32
     ensures { result ≡ number_after 0 digits.now }
 {
@@ -73,45 +74,47 @@ fn number_of(digits: &[u8]) -> u32
     number
 }
 
-// Whether a byte may be inside the name of a file: it is no quote.
-fn is_inside(byte: u8) -> bool
+// Whether a byte may be in the name of a file in a mark: it is no quote.
+fn is_name_byte(byte: u8) -> bool
     ensures { result ≡ is_inside byte }
 {
     byte != b'"'
 }
 
-// Whether a byte may come after the name in a mark, where flags are: it is a digit or a blank.
+// Whether a byte may come after the name of the file in a mark, where flags are: it is a digit, a
+// blank, or the carriage return of a line end.
 fn is_flag(byte: u8) -> bool
     ensures { result ≡ is_flag byte }
 {
     byte.is_ascii_digit() || byte == b' ' || byte == b'\r'
 }
 
-// Whether all bytes are digits or blanks, as the flags of a mark.
+// Whether all of the bytes may come after the name of the file in a mark, where flags are.
 fn are_flags(bytes: &[u8]) -> bool
     ensures { result ≡ list_all is_flag bytes.now }
 {
     bytes.iter().all(|byte| is_flag(*byte))
 }
 
-// How many digits a text begins with.
-fn digits_in(text: &[u8]) -> usize
+// How many decimal digits a text begins with.
+fn leading_digits(text: &[u8]) -> usize
     ensures value { result ≡ prefix_len is_ascii_digit text.now }
     ensures within { result ≤ length text.now }
 {
     text.iter().take_while(|byte| byte.is_ascii_digit()).count()
 }
 
-// How many bytes of a text come before its first quote.
+// How many bytes of a text come before its first quote; all where it has none.
 fn name_length(text: &[u8]) -> usize
     ensures value { result ≡ prefix_len is_inside text.now }
     ensures within { result ≤ length text.now }
 {
-    text.iter().take_while(|byte| is_inside(**byte)).count()
+    text.iter().take_while(|byte| is_name_byte(**byte)).count()
 }
 
-// The name at the start of a text, up to a quote, after which only digits and blanks may come.
-fn name_in(text: &[u8]) -> Option<&[u8]>
+// The name of a file that a text begins with, up to the quote that closes it. `None` where no quote
+// does, or where more comes after it than the flags of a mark, which are digits and blanks.
+fn name_before_quote(text: &[u8]) -> Option<&[u8]>
     ensures { MatchOption result (name_in text.now ≡ None)
         (λ name. name_in text.now ≡ Some name.now) }
 {
@@ -123,68 +126,78 @@ fn name_in(text: &[u8]) -> Option<&[u8]>
     }
 }
 
-// The name that a mark has after its number, which begins with a blank and a quote.
-fn name_of(text: &[u8]) -> Option<&[u8]>
+// The name of a file in what comes after the number of a mark: a blank, the name in quotes, and
+// flags. `None` where that isn't what comes.
+fn quoted_name(text: &[u8]) -> Option<&[u8]>
     ensures { MatchOption result (name_of text.now ≡ None)
         (λ name. name_of text.now ≡ Some name.now) }
 {
-    name_in(after(b" \"", text)?)
+    name_before_quote(strip_prefix(b" \"", text)?)
 }
 
-// The name that a mark has after its number, or no byte where nothing comes after the number.
-fn name_or_none(text: &[u8]) -> Option<&[u8]>
+// The name of a file in what comes after the number of a mark; the empty name where nothing comes.
+// `None` where what comes is no name in quotes.
+fn optional_name(text: &[u8]) -> Option<&[u8]>
     ensures { MatchOption result (name_or_none text.now ≡ None)
         (λ name. name_or_none text.now ≡ Some name.now) }
 {
     if text.is_empty() {
         return Some(text);
     }
-    name_of(text)
+    quoted_name(text)
 }
 
-// The name that a mark has after its number; where it isn't owed, no byte where nothing comes there.
-fn name_by(text: &[u8], is_owed: bool) -> Option<&[u8]>
-    ensures { MatchOption result (name_by is_owed text.now ≡ None)
-        (λ name. name_by is_owed text.now ≡ Some name.now) }
+// The name of a file in what comes after the number of a mark; the empty name where nothing comes
+// and no name is required. `None` where what comes is no name in quotes.
+fn mark_name(text: &[u8], is_required: bool) -> Option<&[u8]>
+    ensures { MatchOption result (name_by is_required text.now ≡ None)
+        (λ name. name_by is_required text.now ≡ Some name.now) }
 {
-    if is_owed {
-        name_of(text)
+    if is_required {
+        quoted_name(text)
     } else {
-        name_or_none(text)
+        optional_name(text)
     }
 }
 
-// The line and the file of a mark: a number, and the name after that, which may be owed.
-fn line_of(text: &[u8], is_owed: bool) -> Option<Mark<'_>>
-    ensures { MatchOption result (line_of is_owed text.now ≡ None)
-        (λ mark. line_of is_owed text.now ≡ Some (line_by mark)) }
+// The mark that has this text after its `# ` or `#line `: the number of a line, and the name of a
+// file, which may be left out unless it is required. `None` where the text is of another form.
+fn number_and_name(text: &[u8], is_name_required: bool) -> Option<Mark<'_>>
+    ensures { MatchOption result (line_of is_name_required text.now ≡ None)
+        (λ mark. line_of is_name_required text.now ≡ Some (line_by mark)) }
 {
-    let digits = digits_in(text);
+    let digits = leading_digits(text);
     if digits == 0 {
         return None;
     }
     let (number, rest) = text.split_at(digits);
-    let file = name_by(rest, is_owed)?;
+    let file = mark_name(rest, is_name_required)?;
     Some(Mark {
         file,
         line: number_of(number),
     })
 }
 
-// What a line says that is a mark: where the line after it comes from. No name stands for that of the
-// mark before. None where the line is no mark.
+// The mark that a line of a text is, as `# 12 "file" 2`, `#line 12 "file"` or `#line 12`; `None`
+// where the line is no mark.
 fn mark_of(text: &[u8]) -> Option<Mark<'_>>
     ensures { MatchOption result (mark_of text.now ≡ None)
         (λ mark. mark_of text.now ≡ Some (line_by mark)) }
 {
-    match after(b"#line ", text) {
-        Some(words) => line_of(words, false),
-        None => line_of(after(b"# ", text)?, true),
+    match strip_prefix(b"#line ", text) {
+        Some(words) => number_and_name(words, false),
+        None => number_and_name(strip_prefix(b"# ", text)?, true),
     }
 }
 
-// Where the line after a line with this text comes from, where the line itself comes from `here`.
-fn next(alloc: Global, here: &Option<Origin>, text: &[u8]) -> Result<Option<Origin>, AllocError>
+// Where the line after a line with this text comes from, where the line itself comes from `here`:
+// from where the text says if it is a mark, else from the line after `here`. `None` where neither
+// the text nor a mark before it names a file.
+fn following_origin(
+    alloc: Global,
+    here: &Option<Origin>,
+    text: &[u8],
+) -> Result<Option<Origin>, AllocError>
     ensures { IfOk result (λ it.
         option_map line_in it ≡ next (option_map line_in here.now) text.now) }
 {
@@ -197,14 +210,15 @@ fn next(alloc: Global, here: &Option<Origin>, text: &[u8]) -> Result<Option<Orig
     Ok(Some(Origin { file, line }))
 }
 
-// The name of a file, to be shared by the lines that come from there.
+// The name of a file in memory that all lines which come from the file can share.
 fn shared_name(alloc: Global, name: &[u8]) -> Result<Rc<Vec<u8>>, AllocError>
     ensures { IfOk result (λ file. (rc_value file).items ≡ name.now) }
 {
     Ok(Rc::new(alloc, Vec::from_slice(alloc, name)?)?)
 }
 
-// Whether the lines of a text that have more than blanks and a comment come from several files.
+// Whether the lines of a text that have more than blanks and a comment come from several files,
+// where `origins` are the origins of all lines. The text counts as one of the files.
 fn has_several_files(origins: &[Option<Origin>], text: &[u8]) -> bool {
     let mut first = None;
     for (line, origin) in text.split(|byte| *byte == b'\n').zip(origins) {
@@ -221,7 +235,7 @@ fn has_several_files(origins: &[Option<Origin>], text: &[u8]) -> bool {
 }
 
 impl Marks {
-    /// The marks of a text.
+    /// Where the lines of a text come from, by the marks in it.
     ///
     /// # Errors
     ///
@@ -233,7 +247,7 @@ impl Marks {
         let mut origins = Vec::new(alloc);
         let mut here = None;
         for line in text.split(|byte| *byte == b'\n') {
-            let after = next(alloc, &here, line)?;
+            let after = following_origin(alloc, &here, line)?;
             origins.push(here)?;
             here = after;
         }
@@ -244,7 +258,8 @@ impl Marks {
         })
     }
 
-    /// Where a line of the text comes from, if a mark comes before the line. Lines count from 1.
+    /// Where a line of the text comes from; `None` where no mark before the line says so, or there
+    /// is no such line. Lines count from 1.
     pub fn origin(&self, line: u32) -> Option<&Origin>
         ensures { option_map (λ o. line_in o.now) result ≡ origin_at (origins_in self.now) line }
     {
@@ -259,8 +274,8 @@ impl Marks {
         }
     }
 
-    /// Where a line of the text comes from, to be printed: by a mark if one comes before the line, else
-    /// the line itself, of the file that was read.
+    /// Where a line of the text comes from, to be printed: the line of a file that the marks before
+    /// it say, or else the line itself, of the file with the name `read`, which was read.
     pub fn file_line<'a>(&'a self, read: &'a str, line: u32) -> FileLine<'a> {
         let (file, line) = match self.origin(line) {
             Some(origin) => (printable_name(origin.file()), origin.line),
@@ -274,7 +289,8 @@ impl Marks {
     }
 }
 
-// The name of a file as it is printed; a question mark where it can't be printed.
+// The name of a file as it is printed; a question mark where it isn't UTF-8 or has a control
+// character.
 fn printable_name(name: &[u8]) -> &str {
     match from_utf8(name) {
         Ok(name) if !name.chars().any(char::is_control) => name,

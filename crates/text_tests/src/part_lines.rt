@@ -92,7 +92,7 @@ const REFUSED: [(&str, &str, &str); 27] = [
     ),
 ];
 
-/// Texts of lines, with `S` for the line `STUCK`; and how many parts each has, or why it is refused.
+/// Texts of lines, with `S` for the line `STUCK`, and how many parts each has or why it is refused.
 const TEXTS: [(&str, &str); 6] = [
     ("", "0 parts"),
     ("\n \n\t\r\n", "0 parts"),

@@ -1,4 +1,4 @@
-//! Programs of texts: their first faults, their parts and code, and where their instructions come from.
+//! Programs of texts: their first faults, parts and code, and where their instructions come from.
 
 use guest_code::error::CheckError;
 use guest_code::laws::{

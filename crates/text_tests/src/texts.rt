@@ -377,7 +377,7 @@ fn is_cut_short(last: usize) -> bool {
     }
 }
 
-/// Compares the column of a cut text's first fault, a token that is missing; none where it is whole.
+/// Compares the column of a cut text's first fault, a missing token; none where it is whole.
 fn check_cut(
     rt: &impl Abort,
     alloc: Global,

@@ -42,7 +42,7 @@ struct BookSnapshot {
 
 // Whether two lists have equal items in the same order.
 fn are_equal_items(first: &[Item], second: &[Item]) -> bool {
-    first.len() == second.len() && first.iter().zip(second).all(|(a, b)| a.is_same(b))
+    first.len() == second.len() && first.iter().zip(second).all(|(a, b)| a.equals(b))
 }
 
 impl BookSnapshot {

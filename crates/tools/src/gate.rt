@@ -1,6 +1,6 @@
 //! A gate that logs what a search tells it.
 
-use runner::{Decision, Gate, Progress};
+use runner::{Answer, Gate, Progress};
 use std::alloc::Global;
 use std::sync::atomic::{AtomicU64, Ordering};
 use std::{fmt, thread};
@@ -34,11 +34,11 @@ pub enum Policy {
     /// In a round of 64 items the gate holds the first calls, as many as this, until the last one
     /// of them has begun, then as many next ones, and so on as long as there are as many items.
     HoldTogether(u64),
-    /// The gate holds who comes to a later item of a round until this item was walked, and a bit more.
+    /// The gate holds who comes to later items of a round until this one is walked, and a bit more.
     HoldAfter(u64),
 }
 
-/// What is logged: an answer to a worker, the end of a walk or of a round, or a wait that is too long.
+/// What is logged: an answer to a worker, the end of a walk or round, or a wait that is too long.
 #[derive(Clone, Copy, Debug, PartialEq, Eq)]
 enum Event {
     Go,
@@ -190,15 +190,15 @@ impl Gate for LoggingGate {
         true
     }
 
-    fn before(&self, worker: u32, item: u64) -> Decision {
+    fn before(&self, worker: u32, item: u64) -> Answer {
         let before = self.asked.fetch_add(1, Ordering::SeqCst);
         if self.is_stopped(worker, item, before) {
             self.log(Event::Stop, worker, item);
-            return Decision::Stop;
+            return Answer::Stop;
         }
         self.log(Event::Go, worker, item);
         self.hold_at(worker, item);
-        Decision::Go
+        Answer::Go
     }
 
     fn walked(&self, worker: u32, item: u64) {
@@ -233,9 +233,9 @@ impl Gate for NeverStopping<'_> {
         false
     }
 
-    fn before(&self, worker: u32, item: u64) -> Decision {
+    fn before(&self, worker: u32, item: u64) -> Answer {
         self.0.log(Event::Go, worker, item);
-        Decision::Go
+        Answer::Go
     }
 
     fn walked(&self, worker: u32, item: u64) {

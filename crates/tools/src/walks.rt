@@ -29,7 +29,7 @@ struct Counts {
     deferred: usize,
 }
 
-/// How many schedules a walk tried, how many failed and got stuck, and how many prefixes it put off.
+/// How many schedules a walk tried, how many failed and got stuck, how many prefixes it put off.
 fn counts_of(found: &Found) -> Counts
     ensures tried { result.tried ≡ found.now.part.tried }
     ensures failed { result.failed ≡ found.now.part.failed }

@@ -1,4 +1,4 @@
-//! Whether a program is right.
+//! Whether a program is right: none of its schedules fails or gets stuck.
 
 ghost use Rattle.std.specs.Prelude.{◌≡◌, ◌≤◌, IfOk, IfErr};
 ghost use Rattle.std.specs.Arc.{arc_value};
@@ -18,7 +18,7 @@ use std::io::Write;
 use std::sync::{Arc, Wait};
 use std::thread::Threads;
 
-/// Whether a program is right.
+/// Whether a program is right, as far as searches show.
 #[derive(Drop)]
 pub enum Correctness {
     /// No complete schedule of the program fails or gets stuck.
@@ -29,14 +29,15 @@ pub enum Correctness {
         /// Whether it is known that no bad schedule has fewer preemptions.
         is_fewest: bool,
     },
-    /// No schedule with fewer preemptions than `below` fails or gets stuck. Whether one with more does
-    /// isn't known: the searches were cut short, or went as far as they were to go.
+    /// No schedule with fewer preemptions than `below` fails or gets stuck. Whether one with more
+    /// does isn't known: the searches were cut short, or went as far as they were to go.
     Undecided {
         below: u32,
     },
 }
 
-/// A number of preemptions, shown in words.
+/// A number of preemptions, which is displayed in words: `no preemption`, `1 preemption` or
+/// `2 preemptions`.
 #[derive(Clone, Copy, Debug)]
 pub struct Preemptions(pub u32);
 
@@ -50,7 +51,7 @@ impl fmt::Display for Preemptions {
     }
 }
 
-// The line of a search: how far it was to go, and what it found.
+// The line that is written on a search as it ends: how far it was to go, and what it found.
 #[derive(Clone, Copy)]
 struct SearchLine<'a> {
     search: Search,
@@ -82,9 +83,9 @@ impl fmt::Display for SearchLine<'_> {
     }
 }
 
-// The number before which searches up to 0, 1, 2 .. preemptions stop: one more than `bound`, or how many
-// preemptions the bad schedule `known` has, where that is less.
-fn stop_of(known: &Option<BadSchedule>, bound: u32) -> u32
+// How many bounds are searched, from 0 on: those up to `bound`; where a bad schedule is known, of
+// these only those that are less than its preemptions, since one with fewer is looked for.
+fn bound_count(known: &Option<BadSchedule>, bound: u32) -> u32
     requires { bound ≤ BOUND }
     ensures { result ≡ stop_of known.now bound }
 {
@@ -94,8 +95,9 @@ fn stop_of(known: &Option<BadSchedule>, bound: u32) -> u32
     }
 }
 
-// The answer where no bad schedule has fewer preemptions than `clear`: `nearer`, the bad schedule of the
-// last search with a bound, or else `known`, that of the search without one, or that none is known.
+// The answer where no bad schedule has fewer preemptions than `clear`: the bad schedule `nearer` of
+// the last search with a bound; else the bad schedule `known` of the search without one; else that
+// it is undecided whether one with `clear` preemptions or more is bad.
 fn answer_of(nearer: Option<BadSchedule>, known: Option<BadSchedule>, clear: u32) -> Correctness
     ensures { result ≡ answer_of nearer known clear }
 {
@@ -108,15 +110,17 @@ fn answer_of(nearer: Option<BadSchedule>, known: Option<BadSchedule>, clear: u32
     }
 }
 
-// Writes a line on a search that ended to `out`. Where that fails, writing the answer at the end fails,
-// too, and the failure is told then.
+// Writes a line on a search that ended to `out`. A failure is passed over: writing the answer to
+// the same stream at the end fails, too, and tells it.
 fn write_search_line<W: Write>(out: &mut W, search: Search, found: &Found) {
     let _ = writeln!(out, "{}", SearchLine { search, found });
     let _ = out.flush();
 }
 
-// Whether a program is right, by searches up to 0, 1, 2 .. preemptions, where the search without a bound
-// didn't show that it is, and named the bad schedule `known` or none.
+// Whether a program is right, by searches up to 0, 1, 2 .. preemptions. They end at the first that
+// shows that all schedules are fine, finds a bad one or is cut short. The search without a bound,
+// which was made before, found the bad schedule `known`, or was cut short and found none. A line on
+// each search is written to `out`.
 #[tactic(auto, using(crate::proofs::Answers::stop_low, crate::proofs::Answers::stopped_at, crate::proofs::Answers::gone_through))]
 fn answer_by_bounds<R, W: Write>(
     rt: &R,
@@ -131,7 +135,7 @@ where
     ensures answer { IfOk result (AnswerMeans (arc_value program.now) limits) }
     ensures error { IfErr result (λ e. e ≡ OutOfMemory) }
 {
-    let stop = stop_of(&known, limits.bound);
+    let stop = bound_count(&known, limits.bound);
     for bound in 0..stop {
         let search = Search::UpTo(bound);
         let found = run_search(rt, program, search, limits, &Open)?;
@@ -147,9 +151,9 @@ where
 }
 
 /// Whether a program is right: by a search without a bound, and where that was cut short or found a
-/// bad schedule, which may not be one of fewest preemptions, by searches up to 0, 1, 2 .. and at
-/// last the limits' bound. Each search is cut short at the limits' number of schedules, and as it ends
-/// a line on it is written to `out`.
+/// bad schedule, which may not be one of fewest preemptions, by searches up to 0, 1, 2 ..
+/// preemptions, at most the bound of `limits`. Each search is cut short at the number of schedules
+/// in `limits`, and as it ends a line on it is written to `out`.
 ///
 /// # Errors
 ///

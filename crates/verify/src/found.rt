@@ -1,4 +1,4 @@
-//! One search, and what it shows.
+//! One search, the bad schedule that it found, and what it shows of all schedules.
 
 ghost use Rattle.std.specs.Prelude.{◌≡◌, ◌+◌, ℕ, List, Some, IfOk, IfErr};
 ghost use Rattle.std.specs.Arc.{arc_value};
@@ -37,7 +37,8 @@ pub struct Found {
 }
 
 impl Found {
-    /// How many preemptions each bad schedule has at least; 0 where the search had no bound.
+    /// How many preemptions each bad schedule of the program has at least, as the search shows; 0
+    /// where it had no bound.
     pub fn clean_below(&self) -> u64
         ensures { result ≡ clean_below self.now.report }
     {
@@ -55,7 +56,7 @@ impl Found {
         }
     }
 
-    /// Whether the search shows that no schedule at all is bad.
+    /// Whether the search shows that no schedule at all is bad, whatever its preemptions.
     pub fn is_right(&self) -> bool
         ensures { result ≡ is_right self.now.report.verdict }
     {
@@ -65,7 +66,8 @@ impl Found {
         }
     }
 
-    /// Whether the search shows that no schedule is bad, as far as it was to go.
+    /// Whether the search shows that no schedule is bad as far as it was to go: within its bound,
+    /// or at all where it had none.
     pub fn is_clean(&self) -> bool
         ensures { result ≡ is_clean self.now.report.verdict }
     {
@@ -73,14 +75,15 @@ impl Found {
     }
 }
 
-// The bound after this one, which is one more.
+// One more than a bound, as a `u64`, in which it can't overflow.
 fn next_bound(bound: u32) -> u64
     ensures { result ≡ bound + 1 }
 {
     u64::from(bound) + 1
 }
 
-// The options of a search as far as `search` says that is cut short at `limit` schedules.
+// The options of a search that goes as far as `search` says, is cut short at `limit` schedules, and
+// isn't a quick one.
 fn options_of(search: Search, limit: u64) -> Options
     ensures { result ≡ options_of search limit }
 {
@@ -92,7 +95,7 @@ fn options_of(search: Search, limit: u64) -> Options
     }
 }
 
-// The bad schedule of these steps, with what a replay of them shows.
+// The bad schedule of these steps, with its preemptions and how it ends, which a replay shows.
 fn bad_schedule(alloc: Global, program: &Program, steps: &[u8]) -> Result<BadSchedule, ExploreError>
     requires { IsBadSchedule program.now steps.now }
     ensures bad { IfOk result (λ b. (b.steps.items ≡ steps.now) × IsBadOf program.now b) }
@@ -106,7 +109,8 @@ fn bad_schedule(alloc: Global, program: &Program, steps: &[u8]) -> Result<BadSch
     })
 }
 
-// The bad schedule that a report names, if it names one.
+// The bad schedule that a report names, with its preemptions and how it ends; `None` where it names
+// none.
 fn named_bad(
     alloc: Global,
     program: &Program,
@@ -122,8 +126,9 @@ fn named_bad(
     }
 }
 
-/// Searches a program as far as `search` says, by as many workers as `limits` say, until as many
-/// schedules were tried as `limits` say.
+/// Searches a program as far as `search` says, by the workers of `limits`, and cuts the search
+/// short at the number of schedules in `limits`, or where the gate stops it. The bound of `limits`
+/// isn't used.
 ///
 /// # Errors
 ///

@@ -1,4 +1,4 @@
-//! Whether the program that a text spells is right.
+//! Whether the program that a text spells is right: none of its schedules fails or gets stuck.
 
 ghost use Rattle.std.specs.Prelude.{MatchResult};
 ghost use Rattle.report.specs.Texts.{ExploreErrorMeans};
@@ -12,11 +12,12 @@ use std::io::Write;
 use std::sync::Wait;
 use std::thread::Threads;
 
-/// Whether the program that a text spells is right: what [`verify`] answers, and writes to `out`.
+/// Whether the program that a text spells is right: answers what [`verify`] does, which writes a
+/// line on each search to `out`.
 ///
 /// # Errors
 ///
-/// As those of [`program_of`].
+/// What is wrong with the text; `OutOfMemory` where memory runs out.
 pub fn verify_text<R, W: Write>(
     rt: &R,
     text: &[u8],

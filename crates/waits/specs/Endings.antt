@@ -8,8 +8,8 @@ use Rattle.semantics.specs.Machine.{owns}
 use Rattle.semantics.specs.Work.{up_from}
 use Rattle.explain.specs.declared.explanation.Explanation.{Explanation}
 use Rattle.explain.specs.declared.explanation.Holder.{Holder}
-use Rattle.explain.specs.declared.standing.Reason.{Reason}
-use Rattle.explain.specs.declared.standing.Reason.TheVariants.{Lock, Retake, Acquire, Signal}
+use Rattle.explain.specs.declared.thread_state.Reason.{Reason}
+use Rattle.explain.specs.declared.thread_state.Reason.TheVariants.{Lock, Retake, Acquire, Signal}
 use Rattle.explain.specs.Blocked.{mutex_of, reason_of}
 use Rattle.lint.specs.declared.uses.Use.TheVariants as uses
 use Rattle.lint.specs.Uses.{does}
@@ -37,7 +37,7 @@ blocked_by told t (Some reason) = Some (record {
 
 -- thread t, where it is blocked
 abbrev pub blocked_of : Explanation → ℕ → Option Blocked
-blocked_of told t = blocked_by told t (reason_of (slice_get told.standings.items t))
+blocked_of told t = blocked_by told t (reason_of (slice_get told.thread_states.items t))
 
 -- an instruction gives mutex m back
 abbrev pub gives_back : ℕ → Instruction → Bool

@@ -5,19 +5,19 @@ use Rattle.guest_code.specs.Program.{Program, code_of}
 use Rattle.lint.specs.Paths.{Comes}
 use Rattle.lint.specs.declared.paths.Watch.TheVariants.{Nothing}
 use Rattle.explain.specs.declared.explanation.Explanation.{Explanation}
-use Rattle.explain.specs.declared.standing.Standing.{Standing}
+use Rattle.explain.specs.declared.thread_state.ThreadState.{ThreadState}
 use Rattle.explain.specs.declared.step.Step.{Step}
 use Rattle.waits.specs.declared.fate.Fate.{Fate}
 use Rattle.waits.specs.declared.fate.Fate.TheVariants.{Taken, Ahead, PassedBy}
 
 -- the number of the instruction at which a thread of which this is told stands
-abbrev pub stands_at : Option Standing → ℕ
+abbrev pub stands_at : Option ThreadState → ℕ
 stands_at None = 0
 stands_at (Some told) = told.instruction
 
 -- the number of the instruction at which thread t stands at the end
 abbrev pub place_of : Explanation → ℕ → ℕ
-place_of told t = stands_at (slice_get told.standings.items t)
+place_of told t = stands_at (slice_get told.thread_states.items t)
 
 -- some path through a code leads from an instruction to another one, or stays there
 abbrev pub LeadsTo : List Instruction → ℕ → ℕ → Type 0

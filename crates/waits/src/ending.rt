@@ -5,14 +5,14 @@ ghost use Rattle.explain.specs.Blocked.{mutex_of};
 ghost use Rattle.waits.specs.Endings.{blocked_of, owner_told, could_end, is_before, gives_back, statements_in, statements_to};
 ghost use Rattle.waits.specs.inner.Rows.{lists, Fits, FindsAhead, FindsEdge};
 
-use crate::fate::{Fate, place_of};
+use crate::fate::{Fate, end_pc};
 use explain::{Explanation, Reason};
 use guest_code::program::{Instruction, Program};
 use lint::uses::Use;
 use semantics::owns;
 use std::alloc::{AllocError, Global};
 
-/// A statement that could end a wait, and what came of it.
+/// A statement that could end the wait of a blocked thread, and what came of the statement.
 #[derive(Clone, Copy, Debug, PartialEq, Eq)]
 pub struct Statement {
     /// The thread in whose code the statement is.
@@ -23,7 +23,7 @@ pub struct Statement {
     pub fate: Fate,
 }
 
-/// A thread that is blocked at the end.
+/// A thread that is blocked at the end of a schedule.
 #[derive(Clone, Copy, Debug)]
 pub struct Blocked {
     /// The number of the thread.
@@ -37,7 +37,8 @@ pub struct Blocked {
 }
 
 impl Blocked {
-    /// The thread of this number, where it is blocked at the end of an explained schedule.
+    /// A thread that is blocked at the end of an explained schedule, by its number; `None` where
+    /// this thread isn't blocked.
     pub fn of(told: &Explanation, thread: u8) -> Option<Blocked>
         ensures { result ≡ blocked_of told.now thread }
     {
@@ -45,20 +46,21 @@ impl Blocked {
         Some(Blocked {
             thread,
             reason,
-            instruction: place_of(told, thread),
+            instruction: end_pc(told, thread),
             owner: owner_of(told, reason),
         })
     }
 
-    /// Whether instruction `at` of thread `other` could end the wait: it gives back, signals or
-    /// releases what is waited for. A mutex is given back by its owner alone; of the waiting thread's
-    /// own code only what lies before the wait tells something of a condition or a semaphore.
+    /// Whether the instruction of number `at` of thread `other` could end the wait. A wait for a
+    /// mutex is ended by its owner, by an `unlock` or a `wait`. One for a condition is ended by a
+    /// `signal` or a `broadcast`, one for a semaphore by a `release`: of any other thread, and of
+    /// the waiting thread those before the instruction at which it waits.
     pub fn could_end(self, other: u8, at: usize, instruction: &Instruction) -> bool
         ensures { result ≡ could_end self other at instruction.now }
     {
         match self.reason {
             Reason::Lock(m) | Reason::Retake(m) => {
-                owns(other, self.owner) && gives_back(m, instruction)
+                owns(other, self.owner) && releases_mutex(m, instruction)
             }
             Reason::Signal(c) => {
                 self.is_before(other, at) && Use::Signals.is_made(c, instruction)
@@ -69,7 +71,8 @@ impl Blocked {
         }
     }
 
-    // Whether `other` is another thread than the waiting one, or `at` lies before where that waits.
+    // Whether the instruction of number `at` of thread `other` is of another thread than the
+    // waiting one, or before the instruction at which the thread waits.
     fn is_before(self, other: u8, at: usize) -> bool
         ensures { result ≡ is_before self other at }
     {
@@ -77,7 +80,8 @@ impl Blocked {
     }
 }
 
-// Who owns the mutex that a thread waits for by this reason, if it waits for one.
+// The owner of the mutex that a thread waits for by this reason, at the end of an explained
+// schedule. `None` where the thread waits for no mutex, or nobody owns the mutex.
 fn owner_of(told: &Explanation, reason: Reason) -> Option<u8>
     ensures { result ≡ owner_told told.now (mutex_of reason) }
 {
@@ -85,8 +89,8 @@ fn owner_of(told: &Explanation, reason: Reason) -> Option<u8>
     Some(holder.thread)
 }
 
-// Whether an instruction gives a mutex back.
-fn gives_back(wanted: usize, instruction: &Instruction) -> bool
+// Whether an instruction releases the mutex `wanted`: an `unlock`, or a `wait` with it.
+fn releases_mutex(wanted: usize, instruction: &Instruction) -> bool
     ensures { result ≡ gives_back wanted instruction.now }
 {
     match instruction {
@@ -96,7 +100,8 @@ fn gives_back(wanted: usize, instruction: &Instruction) -> bool
     }
 }
 
-// Adds the statements of thread `other` that could end the wait of a blocked thread.
+// Adds to `list`, in the order of the code, the statements of thread `other` that could end the
+// wait of a blocked thread, each with what came of it. `code` and `fates` are those of `other`.
 fn put_statements(
     list: &mut Vec<Statement>,
     code: &[Instruction],
@@ -120,7 +125,13 @@ fn put_statements(
     Ok(())
 }
 
-/// Each statement that could end the wait of a thread, by thread and instruction.
+/// Each statement that could end the wait of a blocked thread, with what came of it, in the order
+/// of threads and instructions. `fates` has, for each thread, what came of each of its
+/// instructions.
+///
+/// # Errors
+///
+/// `AllocError` where memory runs out.
 pub fn statements_of(
     alloc: Global,
     program: &Program,
@@ -139,8 +150,9 @@ pub fn statements_of(
     Ok(list)
 }
 
-// Whether thread `other` has a statement ahead that could end the wait of a blocked thread.
-fn has_ender_ahead(code: &[Instruction], fates: &[Fate], blocked: Blocked, other: u8) -> bool
+// Whether thread `other` may still come to a statement that could end the wait of a blocked thread,
+// and that it hasn't carried out. `code` and `fates` are those of `other`.
+fn may_still_end_wait(code: &[Instruction], fates: &[Fate], blocked: Blocked, other: u8) -> bool
     requires { length fates.now ≡ length code.now }
     ensures { IsTrue result ↔ FindsAhead code.now fates.now blocked other }
 {
@@ -152,11 +164,12 @@ fn has_ender_ahead(code: &[Instruction], fates: &[Fate], blocked: Blocked, other
     false
 }
 
-/// Whether a blocked thread waits for thread `other`: that owns its mutex, or has a statement ahead
-/// which could end the wait.
+/// Whether a blocked thread waits for thread `other`: whether that owns the mutex which is waited
+/// for, or may still come to a statement that could end the wait. `code` and `fates` are those of
+/// `other`.
 pub fn waits_for(code: &[Instruction], fates: &[Fate], blocked: Blocked, other: u8) -> bool
     requires { length fates.now ≡ length code.now }
     ensures { IsTrue result ↔ FindsEdge code.now fates.now blocked other }
 {
-    owns(other, blocked.owner) || has_ender_ahead(code, fates, blocked, other)
+    owns(other, blocked.owner) || may_still_end_wait(code, fates, blocked, other)
 }

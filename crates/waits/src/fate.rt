@@ -1,4 +1,4 @@
-//! What came of the instructions of a thread: carried out, still ahead of it, or passed by.
+//! What came of each instruction of a thread in a schedule: carried out, still ahead, or passed by.
 
 ghost use Rattle.std.specs.Prelude.{◌≡◌, ◌≤◌, ◌<◌, ◌^◌, ◌↔◌, ℕ, List, IsTrue, length, IfOk};
 ghost use Rattle.guest_code.specs.declared.program.Instruction.{Instruction};
@@ -11,29 +11,32 @@ ghost use Rattle.waits.specs.inner.Taking.{AreFates, fate_by, taken_by, with_tak
 
 use explain::{Explanation, Step};
 use guest_code::program::{Instruction, Program};
-use lint::paths::{Mark, Watch, paths};
+use lint::paths::{Mark, Watch, path_marks};
 use std::alloc::{AllocError, Global};
 
-/// What came of an instruction of a thread.
+/// What came of an instruction of a thread in a schedule.
 #[derive(Clone, Copy, Debug, PartialEq, Eq)]
 pub enum Fate {
-    /// The instruction was carried out, in the step at this place.
+    /// The instruction was carried out, first in the step at this place.
     Taken(usize),
-    /// The instruction wasn't carried out, and some path leads to it from where its thread stands.
+    /// The instruction wasn't carried out, and some path through the code leads to it from where
+    /// its thread is at the end.
     Ahead,
-    /// The instruction wasn't carried out, and no path leads to it any more.
+    /// The instruction wasn't carried out, and no path leads to it from where its thread is at the
+    /// end.
     PassedBy,
 }
 
 impl Fate {
-    /// Whether the instruction is still ahead of its thread.
+    /// Whether the thread hasn't carried out the instruction, and may still come to it.
     pub fn is_ahead(self) -> bool
         ensures { IsTrue result ↔ (self ≡ Fate.Ahead) }
     {
         matches!(self, Fate::Ahead)
     }
 
-    // What came of an instruction before any step: by its mark a path leads to it, or none does.
+    // What came of an instruction, as far as no step carried it out. `mark` says whether a path
+    // leads to it from where its thread is at the end.
     fn of(mark: Mark) -> Fate
         ensures { result ≡ fate_by mark }
     {
@@ -44,7 +47,8 @@ impl Fate {
         }
     }
 
-    // What came of an instruction that is carried out in the step at a place, or was before that.
+    // What came of an instruction that the step at this place carries out: that it is taken there,
+    // or else in the earlier step by which it was taken already.
     fn or_taken(self, place: usize) -> Fate
         ensures { result ≡ taken_by self place }
     {
@@ -55,23 +59,25 @@ impl Fate {
     }
 }
 
-/// The number of the instruction at which a thread stands at the end.
-pub fn place_of(told: &Explanation, thread: u8) -> usize
+/// The number of the instruction at which a thread is at the end of an explained schedule; 0 where
+/// there is no such thread.
+pub fn end_pc(told: &Explanation, thread: u8) -> usize
     ensures { result ≡ place_of told.now thread }
 {
-    match told.standing(thread) {
-        Some(standing) => standing.instruction,
+    match told.thread_state(thread) {
+        Some(thread_state) => thread_state.instruction,
         None => 0,
     }
 }
 
-// For each instruction of a code whether it is ahead of a thread at a place, or was passed by.
+// What came of each instruction of a code, as far as no step carried it out: whether a path leads
+// to it from the instruction of number `place`, at which the thread is at the end, or none does.
 fn fates_by_path(alloc: Global, code: &[Instruction], place: usize) -> Result<Vec<Fate>, AllocError>
     requires jumps { JumpsWithin code.now }
     requires short { length code.now < 2 ^ 32 }
     ensures { IfOk result (λ v. (steps : List Step) (t : ℕ) → AreFates code.now place steps t 0 v.items) }
 {
-    let marks = paths(alloc, code, Watch::Nothing, place.min(code.len()), false)?;
+    let marks = path_marks(alloc, code, Watch::Nothing, place.min(code.len()), false)?;
     let mut fates = Vec::new(alloc);
     for at in 0..code.len() {
         fates.push(Fate::of(marks[at]))?;
@@ -79,8 +85,9 @@ fn fates_by_path(alloc: Global, code: &[Instruction], place: usize) -> Result<Ve
     Ok(fates)
 }
 
-// Puts down that an instruction was carried out in the step at a place.
-fn put_taken(fates: &mut [Fate], instruction: usize, place: usize)
+// Marks an instruction as carried out in the step at this place, unless it is marked so for an
+// earlier step.
+fn mark_taken(fates: &mut [Fate], instruction: usize, place: usize)
     ensures { fates.new ≡ with_taken fates.old instruction place }
 {
     if instruction < fates.len() {
@@ -88,20 +95,21 @@ fn put_taken(fates: &mut [Fate], instruction: usize, place: usize)
     }
 }
 
-// Puts down which instructions a thread has carried out.
-fn put_steps(fates: &mut [Fate], steps: &[Step], thread: u8)
+// Marks the instructions that steps of a thread carried out, each with the place of the first of
+// these steps.
+fn mark_steps(fates: &mut [Fate], steps: &[Step], thread: u8)
     ensures { (code : List Instruction) (from : ℕ) →
         AreFates code from steps.now thread 0 fates.old →
         AreFates code from steps.now thread (length steps.now) fates.new }
 {
     for (place, step) in steps.iter().enumerate() {
         if step.line.thread == thread {
-            put_taken(fates, step.instruction, place);
+            mark_taken(fates, step.instruction, place);
         }
     }
 }
 
-// What came of each instruction of a thread.
+// What came of each instruction of a thread in an explained schedule.
 fn fates_of(
     alloc: Global,
     program: &Program,
@@ -112,12 +120,16 @@ fn fates_of(
     ensures { IfOk result (λ v. Fates program.now told.now thread v.items) }
 {
     program.keeps_limits();
-    let mut fates = fates_by_path(alloc, program.code(thread), place_of(told, thread))?;
-    put_steps(&mut fates, told.steps(), thread);
+    let mut fates = fates_by_path(alloc, program.code(thread), end_pc(told, thread))?;
+    mark_steps(&mut fates, told.steps(), thread);
     Ok(fates)
 }
 
-/// What came of each instruction of each thread.
+/// What came of each instruction of each thread in an explained schedule.
+///
+/// # Errors
+///
+/// `AllocError` where memory runs out.
 pub fn all_fates(
     alloc: Global,
     program: &Program,

@@ -1,4 +1,4 @@
-//! Who waits for whom, through one thread after the other.
+//! Graphs of threads, as the wait-for graph, and which threads lead to each other in them.
 
 ghost use Rattle.std.specs.Prelude.{◌<◌, ◌↔◌, ℕ, IsTrue};
 ghost use Rattle.semantics.specs.Mask.{has};
@@ -8,10 +8,12 @@ ghost use Rattle.waits.specs.inner.Rows.{IsExtendedThrough};
 use guest_code::limits::THREADS;
 use semantics::mask::Mask;
 
-/// For each thread a set of threads, to which it leads.
+/// A graph of threads by its adjacency: for each thread, by number, the set of threads to which an
+/// edge, or a way of several edges, leads from it.
 pub type Rows = [Mask; THREADS];
 
-// Lets each thread that leads to thread `k` lead on to where `k` leads.
+// One step of Warshall's algorithm: each thread that leads to thread `k` leads also to all threads
+// to which `k` leads.
 fn extend_through(rows: &mut Rows, k: u8)
     requires { k < THREADS }
     ensures { IsExtendedThrough rows.old rows.new k }
@@ -24,7 +26,7 @@ fn extend_through(rows: &mut Rows, k: u8)
     }
 }
 
-/// The threads to which each thread leads, through one of these edges or several.
+/// For each thread the threads to which it leads through one or more of these edges.
 pub fn transitive_closure(edges: Rows) -> Rows
     ensures { (t u : ℕ) → IsIn result t u ↔ Leads (IsIn edges) t u }
 {
@@ -35,7 +37,8 @@ pub fn transitive_closure(edges: Rows) -> Rows
     rows
 }
 
-/// The circle of a thread: the threads to which it leads and that lead to it.
+/// The circle of a thread, its strongly connected component: the threads to which it leads and that
+/// lead to it. Empty where the thread doesn't lead to itself. `rows` is a transitive closure.
 pub fn circle_of(rows: &Rows, thread: u8) -> Mask
     requires { thread < THREADS }
     ensures { (u : ℕ) → IsTrue (has result u) ↔ (IsIn rows.now thread u × IsIn rows.now u thread) }

@@ -9,7 +9,8 @@ ghost use Rattle.explain.specs.declared.explanation.Explanation.{Explanation};
 ghost use Rattle.waits.specs.declared.wait.Waits.{Waits};
 ghost use Rattle.waits.specs.Waiting.{TellsWaits};
 
-/// No thread is in two circles: those that share a thread have all threads in common.
+/// No thread is in two circles, which are sets of threads each of which waits, directly or through
+/// others, for each of them: two circles that share a thread have the same threads.
 pub fn no_thread_is_in_two_circles()
     ensures { (p : Program) (told : Explanation) (waits : Waits) (c d : Mask) (t : ℕ) →
         TellsWaits p told waits →

@@ -2,9 +2,10 @@
 //!
 //! A thread that waits for a mutex waits for its owner; one that waits for a condition or a
 //! semaphore waits for each thread that may still come to a `signal`, a `broadcast` or a `release`
-//! of it. [`Waits::new`] answers, for each blocked thread, every such statement and what came of it,
-//! the threads that it waits for, and all circles: sets of threads each of which waits, through one
-//! after the other, for each of them. No thread is in two ([`laws`]). All is read from an
+//! of it. [`Waits::new`] answers, for each blocked thread, every such statement and what came of
+//! it, the threads that it waits for, and all circles: sets of threads each of which waits,
+//! directly or through other threads, for each of them (circular waits, the strongly connected
+//! components of the wait-for graph). No thread is in two ([`laws`]). All is read from an
 //! [`Explanation`](explain::Explanation) and the code of the program. `specs/` has the definitions,
 //! by relations and whole lists.
 #![tactic(auto)]

@@ -16,30 +16,31 @@ use guest_code::program::Program;
 use semantics::mask::Mask;
 use std::alloc::{AllocError, Global};
 
-/// A thread that is blocked at the end, and who could end its wait.
+/// A thread that is blocked at the end of a schedule, and who could end its wait.
 #[derive(Debug, Drop)]
 pub struct Wait {
     /// The number of the thread.
     pub thread: u8,
     /// What the thread waits for.
     pub reason: Reason,
-    /// The place of the thread's last step, after which it came to this wait: of a `wait` its first
-    /// step. `None` where the thread took none.
+    /// The place of the thread's last step, after which it came to this wait; at a `wait`, the
+    /// first step of that statement. `None` where the thread took no step.
     pub since: Option<usize>,
-    /// Each statement that could end the wait, by thread and instruction: of a mutex those of its
-    /// owner that give it back; of a condition or a semaphore each `signal`, `broadcast` or
-    /// `release` of it, of the thread's own code those before the wait.
+    /// Each statement that could end the wait, in the order of threads and instructions: for a
+    /// mutex those of its owner that release it; for a condition or a semaphore each `signal`,
+    /// `broadcast` or `release` of it, of the thread's own code those before the wait.
     pub statements: Vec<Statement>,
-    /// The threads that are waited for: the owner of the mutex, or each thread that has a statement
-    /// ahead that could end the wait.
+    /// The threads that the thread waits for: the owner of the mutex, and each thread that may
+    /// still come to a statement that could end the wait.
     pub on: Mask,
-    /// The threads of the thread's circle: those for which it waits through one thread after the
-    /// other, and that wait so for it. Empty where it is in none.
+    /// The threads of the thread's circle: those for which it waits, directly or through others,
+    /// and that wait so for it. Empty where it is in no circle.
     pub circle: Mask,
 }
 
 impl Wait {
-    /// Whether the thread is in no circle: nobody that it waits for, if through others, waits for it.
+    /// Whether the thread is in no circle: whether no thread for which it waits, directly or
+    /// through others, waits so for it.
     pub fn is_circle_free(&self) -> bool
         ensures { IsTrue result ↔ (self.now.circle ≡ no_threads) }
     {
@@ -47,7 +48,7 @@ impl Wait {
     }
 }
 
-/// All that wait at the end of a schedule, and their circles.
+/// All threads that are blocked at the end of a schedule, and their circles.
 #[derive(Debug, Drop)]
 pub struct Waits {
     waits: Vec<Wait>,
@@ -55,7 +56,8 @@ pub struct Waits {
 }
 
 impl Waits {
-    /// The waits of the threads that are blocked at the end of what ran, in a run that failed too.
+    /// The waits of all threads that are blocked at the end of an explained schedule, also of one
+    /// that failed, and the circles of these threads.
     ///
     /// # Errors
     ///
@@ -64,7 +66,7 @@ impl Waits {
         ensures { IfOk result (TellsWaits program.now told.now) }
     {
         let fates = all_fates(alloc, program, told)?;
-        let edges = edges_of(program, told, fates.as_slice());
+        let edges = wait_for_graph(program, told, fates.as_slice());
         let leads = transitive_closure(edges);
         let mut waits = Vec::new(alloc);
         for t in 0..program.threads() {
@@ -83,14 +85,14 @@ impl Waits {
         Ok(Waits { waits, circles })
     }
 
-    /// The wait of each thread that is blocked, by thread.
+    /// The wait of each thread that is blocked, in the order of the threads.
     pub fn all(&self) -> &[Wait]
         ensures { result.now ≡ self.now.waits.items }
     {
         self.waits.as_slice()
     }
 
-    /// The wait of a thread; `None` where it isn't blocked.
+    /// The wait of a thread; `None` where the thread isn't blocked.
     pub fn of(&self, thread: u8) -> Option<&Wait>
         ensures thread { IfSome result (λ wait. wait.now.thread ≡ thread) }
         ensures one { IfSome result (λ wait. Contains self.now.waits.items wait.now) }
@@ -104,7 +106,8 @@ impl Waits {
         None
     }
 
-    /// The circles of threads that wait for each other, by first thread. No thread is in two.
+    /// The circles: sets of threads each of which waits, directly or through others, for each of
+    /// them. In the order of the first thread of each; no thread is in two.
     pub fn circles(&self) -> &[Mask]
         ensures { result.now ≡ self.now.circles.items }
     {
@@ -112,7 +115,7 @@ impl Waits {
     }
 }
 
-// The place of a thread's last step.
+// The place of the last of these steps that is one of a thread; `None` where the thread took none.
 fn last_step(steps: &[Step], thread: u8) -> Option<usize>
     ensures { IsLastStep steps.now thread (length steps.now) result }
 {
@@ -125,7 +128,8 @@ fn last_step(steps: &[Step], thread: u8) -> Option<usize>
     last
 }
 
-// The threads that a blocked thread waits for.
+// The threads that a blocked thread waits for. `fates` has, for each thread, what came of each of
+// its instructions.
 fn waited_for(program: &Program, fates: &[Vec<Fate>], blocked: Blocked) -> Mask
     requires { Fits program.now (lists fates.now) }
     ensures { (u : ℕ) → IsTrue (has result u) ↔ ((u < length program.now.threads)
@@ -139,8 +143,10 @@ fn waited_for(program: &Program, fates: &[Vec<Fate>], blocked: Blocked) -> Mask
     on
 }
 
-// The threads that each thread waits for.
-fn edges_of(program: &Program, told: &Explanation, fates: &[Vec<Fate>]) -> Rows
+// The wait-for graph at the end of an explained schedule: for each thread the threads that it waits
+// for, none for one that isn't blocked. `fates` has, for each thread, what came of each of its
+// instructions.
+fn wait_for_graph(program: &Program, told: &Explanation, fates: &[Vec<Fate>]) -> Rows
     requires fates { AllFates program.now told.now (lists fates.now) }
     requires fits { Fits program.now (lists fates.now) }
     ensures { (t u : ℕ) → IsIn result t u ↔ WaitsFor program.now told.now t u }
@@ -154,7 +160,8 @@ fn edges_of(program: &Program, told: &Explanation, fates: &[Vec<Fate>]) -> Rows
     edges
 }
 
-// Whether a thread is in a set, and the one with the least number.
+// Whether a thread is the first of a set: whether it is in the set, and no thread with a lesser
+// number is.
 fn is_first_of(set: Mask, thread: u8) -> bool
     ensures { result ≡ is_first_of set thread }
 {
@@ -166,7 +173,7 @@ fn is_first_of(set: Mask, thread: u8) -> bool
     set.contains(thread)
 }
 
-// Each circle once, as that of its first thread.
+// Each circle of these waits once, in the order of the first thread of each.
 fn circles_of(alloc: Global, waits: &[Wait]) -> Result<Vec<Mask>, AllocError>
     ensures { IfOk result (λ v. v.items ≡ circles_in waits.now) }
 {

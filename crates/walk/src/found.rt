@@ -18,14 +18,14 @@ pub struct Found {
     pub rest: Vec<Item>,
     /// The prefixes whose last step would be one preemption too many, where they are listed.
     pub deferred: Prefixes,
-    /// Whether they are. At the last bound of a search nobody asks for them.
+    /// Whether deferred prefixes are listed. At the last bound of a search nobody asks for them.
     pub lists: bool,
-    // How many of the walk's steps begin the prefix that was deferred last, too, while it goes on.
+    // While a walk goes on, how many of its steps begin the prefix that was deferred last, too.
     pub(crate) shared: usize,
 }
 
 impl Found {
-    /// Nothing was found. What is put off is to be listed.
+    /// What no walk has added to yet. Prefixes that are put off are to be listed.
     pub fn new(alloc: Global) -> Found
         ensures part { result.part ≡ nothing }
         ensures rest { result.rest.items ≡ [] }
@@ -42,8 +42,8 @@ impl Found {
         }
     }
 
-    // A walk begins at the node to which these steps lead.
-    pub(crate) fn begin(&mut self, steps: &Vec<u8>)
+    // Begins a walk at the node to which `steps` lead: counts what the last deferred prefix shares.
+    pub(crate) fn begin_walk(&mut self, steps: &Vec<u8>)
         ensures same { self.new ≡ record self.old { shared = self.new.shared } }
         ensures shared { IsShared steps.now.items self.new }
     {
@@ -53,8 +53,8 @@ impl Found {
         };
     }
 
-    // Forgets what was found. End views go to this memory, all else is kept. What is put off next
-    // is to be listed or not.
+    // Forgets what was found. The memory of its end views goes to `ends`, all other memory is kept.
+    // `lists` says whether the prefixes that are put off next are to be listed.
     pub(crate) fn clear(&mut self, ends: &mut EndMemory, lists: bool)
         ensures part { self.new.part ≡ nothing }
         ensures rest { self.new.rest.items ≡ [] }

@@ -36,9 +36,9 @@ pub struct Node {
 #[derive(Clone, Copy, Debug)]
 pub struct Frame {
     pub node: Node,
-    /// How many steps lead to it.
+    /// How many steps lead to the node.
     pub steps: usize,
-    /// The state there, but for its values.
+    /// The state at the node, but for its values.
     pub control: Control,
 }
 
@@ -62,8 +62,8 @@ pub struct Path {
 }
 
 impl Node {
-    // The node at the start.
-    fn first() -> Node
+    // The node at the start of a program, to which no step leads.
+    fn root() -> Node
         ensures last { result.last ≡ None }
         ensures used { result.used ≡ 0 }
     {
@@ -75,8 +75,8 @@ impl Node {
         }
     }
 
-    // Becomes the node after a step of a thread, where these are enabled at the node before and
-    // these sleep after the step.
+    // Becomes the node after a step of a thread, where `enabled` were enabled before the step and
+    // `asleep` sleep after it.
     fn step(&mut self, enabled: Mask, thread: u8, asleep: Mask)
         requires { self.old.used + 1 < 2 ^ 32 }
         ensures asleep { self.new.asleep ≡ asleep }
@@ -108,7 +108,7 @@ impl Node {
     }
 }
 
-// Makes words until there are as many as this.
+// Appends words, each 0, until there are at least `count` of them.
 fn make_words(words: &mut Vec<i64>, count: usize) -> Result<(), AllocError>
     ensures there { OnOk result (count ≤ length words.new.items) }
     ensures room { length words.old.items ≤ length words.new.items }
@@ -134,7 +134,7 @@ fn push_run(steps: &mut Vec<u8>, thread: u8, count: u32)
     }
 }
 
-// Makes a frame at this depth, unless there is one.
+// Makes a frame at this depth, to be written over, unless there is one.
 #[inline(always)]
 fn make_frame(frames: &mut Vec<Frame>, depth: usize, machine: &Machine) -> Result<(), AllocError>
     requires { depth ≤ length frames.old.items }
@@ -144,7 +144,7 @@ fn make_frame(frames: &mut Vec<Frame>, depth: usize, machine: &Machine) -> Resul
 {
     if frames.len() <= depth {
         frames.push(Frame {
-            node: Node::first(),
+            node: Node::root(),
             steps: 0,
             control: machine.control(),
         })?;
@@ -153,7 +153,7 @@ fn make_frame(frames: &mut Vec<Frame>, depth: usize, machine: &Machine) -> Resul
 }
 
 impl Path {
-    /// The path of no step.
+    /// The path of no step, at the opening state of a program.
     ///
     /// # Errors
     ///
@@ -167,7 +167,7 @@ impl Path {
         Ok(Path {
             machine,
             steps: Vec::new(alloc),
-            node: Node::first(),
+            node: Node::root(),
             frames: Vec::new(alloc),
             depth: 0,
             words: Vec::new(alloc),
@@ -203,8 +203,8 @@ impl Path {
         Ok(())
     }
 
-    /// Pops the frames from this depth on, and goes back to the node of the first of them, which
-    /// may be taken as a frame again.
+    /// Pops the frames from this depth on, and goes back to the node of the first of them. To keep
+    /// that frame, the caller may set the depth to one more.
     #[inline(always)]
     pub fn pop_to(&mut self, _program: &Program, depth: usize)
         requires path { IsPath _program.now self.old }
@@ -229,8 +229,8 @@ impl Path {
         self.depth = depth;
     }
 
-    /// Extends the path by a run of an enabled thread, after whose first step these threads sleep:
-    /// one step, or more where the node is at the mode's bound then.
+    /// Extends the path by a run of an enabled thread, after whose first step `asleep` sleep: by
+    /// one step, or more where the node after the first is at the mode's bound.
     ///
     /// # Errors
     ///
@@ -260,8 +260,8 @@ impl Path {
         Ok(run)
     }
 
-    // Goes back to the node of the last frame at most this many steps from the start, and keeps the
-    // frame.
+    // Goes back to the node of the last frame that is at most `count` steps from the start, and
+    // keeps the frame.
     fn rewind(&mut self, program: &Program, count: usize)
         requires path { IsPath program.now self.old }
         requires frames { 0 < self.old.depth }
@@ -282,7 +282,7 @@ impl Path {
         self.depth = depth + 1;
     }
 
-    // Replays the step of a schedule at this place, and no more: without a bound nobody is alone.
+    // Replays the step of a schedule at one place, and no more: without a bound no thread is alone.
     // Every second node gets a frame, but the last: so half the copies are saved, and to rewind
     // costs a step or two more.
     fn replay_step(
@@ -308,7 +308,7 @@ impl Path {
         }
     }
 
-    /// Replays a schedule: rewinds to what it shares with the steps so far, and takes the others.
+    /// Replays a schedule: rewinds to what it shares with the steps so far, and takes the rest.
     ///
     /// # Errors
     ///

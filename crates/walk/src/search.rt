@@ -21,7 +21,7 @@ use semantics::mask::Mask;
 use std::alloc::{AllocError, Global};
 
 impl Found {
-    // Defers the step of a thread, beside the one that was taken at this place of the steps.
+    // Defers a thread's step from the node to which the first `place` steps lead: lists its prefix.
     #[inline(always)]
     fn defer_one(&mut self, steps: &mut Vec<u8>, place: usize, thread: u8) -> Result<(), AllocError>
         requires place { place < length steps.old.items }
@@ -47,7 +47,7 @@ impl Found {
         Ok(())
     }
 
-    // Defers the steps of these threads, after one of the same node.
+    // Defers steps of the threads `past` from the node after `_steps`, after one from that node.
     #[inline(always)]
     fn defer_beside(&mut self, _steps: &[u8], past: Mask) -> Result<(), AllocError>
         requires shared { IsShared _steps.now self.old }
@@ -65,7 +65,7 @@ impl Found {
         Ok(())
     }
 
-    // Defers the steps of these threads, of which this one is the first.
+    // Defers steps of threads `past`, whose least is `first`, from the node after `place` steps.
     #[inline(always)]
     fn defer_all(
         &mut self,
@@ -91,8 +91,8 @@ impl Found {
         self.defer_beside(&steps[..place], without_first(past, first))
     }
 
-    // Defers the steps of these threads, beside the one that was taken at this place of the steps;
-    // they are listed or only noted. Often there is none.
+    // Defers steps of the threads `past` from the node to which the first `place` steps lead: lists
+    // their prefixes, or only notes that there is one. Often there is none.
     #[inline(always)]
     pub(crate) fn defer(
         &mut self,
@@ -120,9 +120,9 @@ impl Found {
         self.defer_all(steps, place, past, first)
     }
 
-    // Before which place to stop, where steps are to be deferred at each place from the one before
-    // `second` to before `end`: where they are only noted, once is enough.
-    fn last_place(&self, second: usize, end: usize) -> usize
+    // The place to stop at, where steps are to be deferred at each place from the one before
+    // `second` to the one before `end`: where deferred steps are only noted, the first is enough.
+    fn end_place(&self, second: usize, end: usize) -> usize
         ensures few { result ≤ end }
         ensures listed { self.now.lists ≡ true → result ≡ end }
         ensures noted { self.now.lists ≡ false → result ≡ min second end }
@@ -131,14 +131,14 @@ impl Found {
     }
 
     // Whether fewer schedules were tried than the limit.
-    fn is_below(&self, limit: u64) -> bool
+    fn is_below_limit(&self, limit: u64) -> bool
         ensures below { IsTrue result → self.now.part.tried < limit }
         ensures full { IsFalse result → limit ≤ self.now.part.tried }
     {
         self.part.tried() < limit
     }
 
-    // Backtracks: the walk is at a node this many steps from its start.
+    // Notes that a walk has backtracked to a node that `steps` steps lead to.
     fn backtrack(&mut self, steps: usize)
         ensures { self.new ≡ record self.old { shared = min self.old.shared steps } }
     {
@@ -146,7 +146,7 @@ impl Found {
     }
 }
 
-// A set without its least member.
+// A set without `first`, its least member.
 fn without_first(set: Mask, first: u8) -> Mask
     requires first { members_from set 0 ≡ first ∷ members_from set (first + 1) }
     requires least { (u : ℕ) → u < first → has set u ≡ false }
@@ -157,7 +157,7 @@ fn without_first(set: Mask, first: u8) -> Mask
 }
 
 impl Node {
-    // Expands the node: the steps that are kept are still to be tried. None passes the bound.
+    // Expands the node: kept steps of `enabled` are still to be tried. None passes the bound.
     fn expand(&mut self, enabled: Mask, mode: Mode)
         requires { (t : ℕ) → (has enabled t && is_past_at mode enabled self.old t) ≡ false }
         ensures kept { (t : ℕ) → has self.new.todo t
@@ -170,7 +170,7 @@ impl Node {
         }
     }
 
-    // Whether a step of any thread but this one passes the bound, where these are enabled.
+    // Whether any other thread's step passes the bound: the node is at it, and `thread` enabled.
     fn is_alone(&self, enabled: Mask, mode: Mode, thread: u8) -> bool
         ensures { result ≡ (at_bound mode self.now && has enabled thread) }
     {
@@ -179,7 +179,7 @@ impl Node {
 }
 
 impl Path {
-    // The threads that sleep after a step.
+    // The threads that sleep after a step of an enabled thread from the node: within a bound none.
     #[inline(always)]
     fn sleepers(&self, program: &Program, mode: Mode, thread: u8) -> Mask
         requires path { IsPath program.now self.now }
@@ -234,8 +234,8 @@ impl Path {
         }
     }
 
-    // Defers the steps of the others where the thread of the last step alone may go on. Answers
-    // whether it may.
+    // Defers the steps of all threads but that of the last step, where that one alone may go on
+    // within the bound. Answers whether it alone may.
     #[inline(always)]
     fn defer_others(
         &mut self,
@@ -270,7 +270,7 @@ impl Path {
         Ok(true)
     }
 
-    // Takes a run into an open child. Steps of the others are deferred at the nodes between.
+    // Runs a thread into its open child. Other threads' steps are deferred at the nodes in between.
     #[inline(always)]
     fn run_once(
         &mut self,
@@ -297,14 +297,14 @@ impl Path {
         let from = self.steps.len();
         let run = self.extend(program, mode, thread, asleep)?;
         let others = run.among.with(thread, false);
-        let last = found.last_place(from + 2, self.steps.len());
+        let last = found.end_place(from + 2, self.steps.len());
         for place in from + 1..last {
             found.defer(&mut self.steps, place, others)?;
         }
         Ok(())
     }
 
-    // Takes a step into an open child, and goes on while its thread alone may.
+    // Runs a thread into its open child, and on while it alone may go on within the bound.
     #[inline(always)]
     fn run(
         &mut self,
@@ -332,7 +332,7 @@ impl Path {
         Ok(())
     }
 
-    // Runs the thread of the last step, where it alone may go on.
+    // Runs the thread of the last step, where it alone may go on within the bound.
     fn run_last(&mut self, found: &mut Found, item: &Item, mode: Mode) -> Result<(), AllocError>
         requires search { Searches mode item.now self.old found.old
             (open_here mode item.now.program self.old) }
@@ -366,7 +366,7 @@ impl Path {
         }
     }
 
-    // Takes the branch to an open child, and expands the node that the run comes to.
+    // Takes the branch to a thread's open child, and expands the node that the run comes to.
     #[inline(always)]
     fn take_branch(
         &mut self,
@@ -395,7 +395,7 @@ impl Path {
         self.expand(alloc, found, item, mode)
     }
 
-    // Pops the last frame. False where its node is above the item's own.
+    // Pops the last frame. False where that leads to the item: nothing below the item is open.
     #[inline(always)]
     fn pop_frame(&mut self, program: &Program, _mode: Mode) -> bool
         requires place { IsPlace program.now self.old }
@@ -419,7 +419,7 @@ impl Path {
         true
     }
 
-    // Backtracks to the node of the last frame. False where that is above the item's own node.
+    // Backtracks to the node of the last frame. False where that node is above the item's own.
     #[inline(always)]
     fn backtrack(&mut self, found: &mut Found, item: &Item, mode: Mode) -> bool
         requires search { Searches mode item.now self.old found.old
@@ -463,7 +463,7 @@ impl Path {
             → still_open mode item.now.program self.new ≡ []) }
     {
         let mut going = true;
-        while going && found.is_below(limit) {
+        while going && found.is_below_limit(limit) {
             match self.node.todo.first_from(0) {
                 Some(thread) => {
                     self.node.todo = without_first(self.node.todo, thread);
@@ -475,7 +475,7 @@ impl Path {
         Ok(())
     }
 
-    // Searches as `search_in` does, by a loop for each mode, in which the mode is known.
+    // Searches as `search_in` does, by a loop for each mode: within it the compiler knows the mode.
     #[inline(never)]
     fn search(
         &mut self,
@@ -504,7 +504,7 @@ impl Path {
         }
     }
 
-    // Makes an item of the next open child, or pops a frame. False where nothing is open.
+    // Appends the next open child's item to the rest, or pops a frame. False where nothing is open.
     fn drain_one(
         &mut self,
         alloc: Global,
@@ -530,14 +530,14 @@ impl Path {
             Some(thread) => {
                 self.node.todo = without_first(self.node.todo, thread);
                 let asleep = self.sleepers(item.program(), mode, thread);
-                let child = item.further(alloc, self.steps.as_slice(), thread, asleep)?;
+                let child = item.with_prefix(alloc, self.steps.as_slice(), thread, asleep)?;
                 rest.push(child)?;
                 Ok(true)
             }
         }
     }
 
-    // Makes items of all that is open, after others.
+    // Appends the items of all open children to the rest, in order.
     fn drain(
         &mut self,
         alloc: Global,
@@ -558,7 +558,7 @@ impl Path {
         Ok(())
     }
 
-    // Seeks an item's prefix, at which the walk begins.
+    // Goes to the node of an item's prefix, at which the walk begins.
     fn seek(&mut self, item: &Item) -> Result<(), AllocError>
         requires { IsPath item.now.program self.old }
         ensures path { IsPath item.now.program self.new }
@@ -575,7 +575,7 @@ impl Path {
     }
 
     // Whether the node has more preemptions than the bound.
-    fn is_past(&self, mode: Mode) -> bool
+    fn is_past_bound(&self, mode: Mode) -> bool
         ensures { result ≡ is_past_here mode self.now.node }
     {
         match mode {
@@ -584,7 +584,7 @@ impl Path {
         }
     }
 
-    /// Tries the first schedules of an item, up to a quota, and adds them to what was found before.
+    /// Tries the first schedules of an item, up to a quota, and adds what is found to `found`.
     pub fn walk(
         &mut self,
         alloc: Global,
@@ -602,11 +602,11 @@ impl Path {
         let _ends = found.part.ends();
         let limit = found.part.tried() + u64::from(quota);
         self.seek(item)?;
-        if self.is_past(mode) {
+        if self.is_past_bound(mode) {
             found.part.set_beyond();
             return Ok(());
         }
-        found.begin(&self.steps);
+        found.begin_walk(&self.steps);
         self.run_last(found, item, mode)?;
         self.expand(alloc, found, item, mode)?;
         self.search(alloc, found, item, mode, limit)?;

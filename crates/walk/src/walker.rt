@@ -49,8 +49,8 @@ impl Walker {
         Ok(Walker { program, path })
     }
 
-    /// Forgets what walks found. Its memory serves other walks, of which what they put off is to be
-    /// listed or not.
+    /// Forgets what walks found, whose memory serves other walks. `lists` says whether the prefixes
+    /// that those put off are to be listed.
     pub fn clear(&mut self, found: &mut Found, lists: bool)
         ensures program { self.new ≡ self.old }
         ensures part { found.new.part ≡ nothing }
@@ -63,8 +63,8 @@ impl Walker {
 
     /// Tries the first `quota` schedules of an item of the walker's program in a mode, or all where
     /// there are fewer, leaves the others, and adds what is found to what other walks found; see
-    /// [`walk`]. The schedules that those tried and the quota are fewer than the greatest count
-    /// together.
+    /// [`walk`]. The schedules that all walks tried, with the quota of this one, are fewer than the
+    /// greatest count.
     ///
     /// # Errors
     ///

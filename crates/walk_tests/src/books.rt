@@ -424,7 +424,7 @@ fn a_quick_book_drops_what_comes_later(rt: HostRuntime) -> Result<(), Fail> {
     check_drops(&rt, &mut book)
 }
 
-/// Lends a worker at most two items, and answers in a line whether more are lent then, and the items.
+/// Lends a worker at most two items. Answers in a line whether more are lent then, and the items.
 fn lend_and_show(
     alloc: Global,
     book: &mut LendingBook,

@@ -68,7 +68,7 @@ fn prefixes_are_split_off(rt: HostRuntime) -> io::Result<()> {
     Ok(())
 }
 
-/// Whether a list has the same bytes as a copy of it, and others than a list that it was not copied to.
+/// Whether a list has the same bytes as its copy, and others than a list it was not copied to.
 fn is_like_its_copy(alloc: Global, list: &Prefixes) -> Result<bool, AllocError> {
     let mut copy = copied_prefix(alloc)?;
     let other = !list.has_same_bytes(&copy);

@@ -90,7 +90,7 @@ fn a_summary_is_joined_in(rt: HostRuntime) -> Result<(), Fail> {
     let alloc = rt.alloc();
     let mut summary = done_and_failed(alloc)?;
     let mut other = done_and_stuck(alloc)?;
-    summary.join_in_by(&mut EndHints::new(), &mut other)?;
+    summary.join_in(&mut EndHints::new(), &mut other)?;
     check_sum(&rt, &summary, TOGETHER)
 }
 

@@ -1,4 +1,4 @@
-//! The commands and their words, told to `clap`.
+//! The commands and their arguments, as `clap` has them.
 
 use clap::{Arg, Command, arg, value_parser};
 use report::limits::BOUND;
@@ -8,8 +8,8 @@ use workers::WORKERS;
 /// The version that `--version` shows.
 pub const VERSION: &str = "0.2.0";
 
-/// The greatest number of prefixes that can be asked for. What is held in memory is as long as what
-/// is printed; more than this is no better balance on any number of machines.
+/// The greatest number that `--at-least` takes. All prefixes that are printed are held in memory,
+/// and more of them balance the load no better, however many machines there are.
 const MAX_PREFIXES: u32 = 1 << 20;
 
 /// What the help of each command ends with.
@@ -57,26 +57,27 @@ fn guest_command<'a>(
         .arg(file)
 }
 
-// The argument `--workers`: how many threads work.
+// The argument `--workers`: how many threads a search has, from 1 to `WORKERS`.
 fn workers_arg<'a>(alloc: Global) -> Arg<'a> {
     let workers = arg!(in alloc; --workers <W> "How many threads work [default: 1]");
     workers.value_parser(value_parser!(u32).range(1..=i64::from(WORKERS)))
 }
 
-// The argument `--limit`: after how many schedules a search is cut short.
+// The argument `--limit`: after how many schedules a search is cut short, at least 1.
 fn limit_arg<'a>(alloc: Global) -> Arg<'a> {
     let limit = arg!(in alloc; --limit <L> "Cut the search short after this number of schedules");
     limit.value_parser(value_parser!(i64).range(1..))
 }
 
-// The argument `--limit` of a command that makes several searches: where each of them is cut short.
+// The argument `--limit` of a command that makes several searches: after how many schedules each of
+// them is cut short.
 fn each_limit_arg<'a>(alloc: Global) -> Arg<'a> {
     limit_arg(alloc).help(
         "Cut a search short once this number of schedules was tried [default: 1000000]",
     )
 }
 
-// The argument `--bound`: the most preemptions of a schedule of the search.
+// The argument `--bound`: the most preemptions of the schedules that a search tries, up to `BOUND`.
 fn bound_arg<'a>(alloc: Global) -> Arg<'a> {
     let bound = arg!(in alloc; --bound <N> "The most preemptions of a schedule [default: 2]");
     bound.value_parser(value_parser!(u32).range(0..=i64::from(BOUND)))
@@ -87,7 +88,8 @@ fn progress_arg<'a>(alloc: Global) -> Arg<'a> {
     arg!(in alloc; --progress "Tell on standard error how far the search is")
 }
 
-// The command `name`, which does what `about` says, with the arguments that each kind of search has.
+// The command `name`, which does what `about` says, with the arguments that each command with one
+// search has: the file, `--workers`, `--limit`, `--progress` and `--quick`.
 fn search_command<'a>(
     alloc: Global,
     name: &'a str,
@@ -100,8 +102,9 @@ fn search_command<'a>(
         .arg(arg!(in alloc; --quick "Once a bad schedule is found, leave out what comes after it"))
 }
 
-// The command `search` with `--trace` and `--under`, too. What `--under` prints is a part of a report:
-// it names no schedule to trace, and nothing may be left out of it, as `--quick` does.
+// A command that searches, with `--trace` and `--under` added to its arguments. What `--under`
+// prints is a part of a search, for `join`: no trace goes with it, and nothing may be left out of
+// it, as `--quick` does.
 fn with_report_args<'a>(alloc: Global, search: Command<'a>) -> Result<Command<'a>, AllocError> {
     let under = arg!(in alloc; --under <PREFIX>
         "Run the schedules that begin with this one, and print a line a bound for `join`");
@@ -132,8 +135,9 @@ fn replay_command<'a>(alloc: Global) -> Result<Command<'a>, AllocError> {
     guest_command(alloc, "replay", about, file_arg(alloc))?.arg(schedule.default_value("-"))
 }
 
-// The command `explain` with what says which schedule is explained: one that is given, or what a search
-// finds. Where one is given nothing is searched, so the arguments of a search conflict with it.
+// The command `explain` with the arguments that say which schedule is explained: one that is given,
+// or one that a search finds. Where one is given nothing is searched, so a search's arguments
+// conflict with it.
 fn explain_schedule_command<'a>(alloc: Global) -> Result<Command<'a>, AllocError> {
     let about = "Says why a schedule of a guest program ends as it does";
     let schedule = arg!(in alloc; [SCHEDULE]
@@ -152,8 +156,8 @@ fn explain_schedule_command<'a>(alloc: Global) -> Result<Command<'a>, AllocError
         .arg(arg!(in alloc; --unbounded "Search without a bound").conflicts_with("bound")?)
 }
 
-// The command `explain` with all its arguments. Only text in columns has a width and folds steps, so the
-// arguments for those conflict with the other forms.
+// The command `explain` with all its arguments. Only an explanation as text has a width and folds
+// steps, so the arguments for those conflict with `--html` and `--json`.
 fn explain_command<'a>(alloc: Global) -> Result<Command<'a>, AllocError> {
     let all = arg!(in alloc; --all "Show each step, however many");
     let steps = arg!(in alloc; --steps <N>
@@ -189,7 +193,7 @@ fn check_command<'a>(alloc: Global) -> Result<Command<'a>, AllocError> {
         .arg(depth.requires_arg("deep")?)
 }
 
-// The command `suite`: searches of many guest programs.
+// The command `suite`: searches of many guest programs, compared with what each expects of itself.
 fn suite_command<'a>(alloc: Global) -> Result<Command<'a>, AllocError> {
     let about = "Searches many guest programs, and compares what each expects of itself";
     guest_command(alloc, "suite", about, files_arg(alloc))?

@@ -34,8 +34,8 @@ impl WordsFault {
         }
     }
 
-    /// Writes what the user is told, and answers the status that the program ends with, which a
-    /// failing `err` doesn't change.
+    /// Writes the message for the user to `err`, and answers the status that the program ends with,
+    /// which a failing `err` doesn't change.
     pub fn report<E: Write>(&self, err: &mut E) -> u8
         ensures { result ≡ words_status self.now }
     {

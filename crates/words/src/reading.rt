@@ -1,4 +1,4 @@
-//! The command words, and what they ask for.
+//! Parsing of the command words to the request that they make.
 
 ghost use Rattle.std.specs.Prelude.{◌≡◌, ◌≤◌, ◌↔◌, IsTrue};
 ghost use Rattle.workers.specs.declared.limits.TheConstants.{WORKERS as MOST};
@@ -27,10 +27,10 @@ const DEFAULT_DEPTH: u64 = 100_000;
 /// processors each gets eight, so that all are busy until near the end.
 const DEFAULT_PREFIXES: u32 = 64;
 
-/// What is said where standard input would be both the guest program and its parts.
+/// What is said where the words name standard input both for the guest program and for parts.
 const STANDARD_INPUT_TWICE: &str = "standard input can't be both the guest program and the parts";
 
-/// The command words that the system gave. The first is the program's own name.
+/// The command words that the system gave the program. The first is the program's own name.
 ///
 /// # Errors
 ///
@@ -39,7 +39,8 @@ pub fn command_words<R: Env + Alloc<A = Global>>(rt: &R) -> Result<Vec<String>, 
     Ok(std::env::args(rt)?.collect(rt.alloc())?)
 }
 
-/// A command and the arguments that it is given. An argument that the command hasn't isn't given.
+/// A command and the arguments that it is given. One that the command doesn't take counts as not
+/// given.
 #[derive(Clone, Copy)]
 struct CommandArguments<'a, 'w> {
     alloc: Global,
@@ -54,12 +55,12 @@ impl CommandArguments<'_, '_> {
         self.words.get_str(argument).is_some()
     }
 
-    // The word that this argument is given, or an empty one.
+    // The word that is given for this argument, or an empty one where none is.
     fn word(&self, argument: &str) -> Result<String, AllocError> {
         String::from_str(self.alloc, self.words.get_str(argument).unwrap_or(""))
     }
 
-    // The words that this argument is given, or none.
+    // The words that are given for this argument, none where it isn't given.
     fn all_words(&self, argument: &str) -> Result<Vec<String>, AllocError> {
         let mut words = Vec::new(self.alloc);
         for word in self.words.get_strs(argument).unwrap_or(&[]) {
@@ -68,7 +69,8 @@ impl CommandArguments<'_, '_> {
         Ok(words)
     }
 
-    // The bound of a search. `clap` has refused one above `BOUND`.
+    // The bound that is given, or else the default one; at most `BOUND`, since `clap` has refused a
+    // greater one.
     fn bound(&self) -> u32
         ensures { IsSearch (UpTo result) }
     {
@@ -76,7 +78,8 @@ impl CommandArguments<'_, '_> {
         bound.min(BOUND)
     }
 
-    // How many threads work, from 1 to `WORKERS`. `clap` has refused other numbers.
+    // The number of workers that is given, or else 1; from 1 to `WORKERS`, since `clap` has refused
+    // other numbers.
     fn workers(&self) -> u32
         ensures some { 1 ≤ result }
         ensures few { result ≤ MOST }
@@ -85,12 +88,14 @@ impl CommandArguments<'_, '_> {
         workers.clamp(1, WORKERS)
     }
 
-    // Whether the search that is asked for has no bound.
+    // Whether a search without a bound is asked for, by the command `unbounded` or by
+    // `--unbounded`.
     fn is_unbounded(&self) -> bool {
         self.name == "unbounded" || self.words.get_flag("unbounded")
     }
 
-    // How far a search goes: without a bound where `is_unbounded`, else up to the bound that is given.
+    // How far a search goes: without a bound where `is_unbounded`, else up to the bound that is
+    // given, or else the default one.
     fn search(&self, is_unbounded: bool) -> Search
         ensures search { IsSearch result }
         ensures unbounded { result ≡ Unbounded ↔ IsTrue is_unbounded }
@@ -102,7 +107,8 @@ impl CommandArguments<'_, '_> {
         }
     }
 
-    // The search that is asked for, and by how many workers.
+    // The search that is asked for: how far it goes, by how many workers, and whether it tells its
+    // progress.
     fn exploration(&self) -> Exploration {
         Exploration {
             options: Options {
@@ -116,7 +122,8 @@ impl CommandArguments<'_, '_> {
         }
     }
 
-    // How far each of several searches goes, with this bound where one is needed.
+    // The limits of a command that makes several searches: `bound` for those that have one, and the
+    // number of schedules and of workers that are given, or the default ones.
     fn limits(&self, bound: u32) -> Limits
         requires { IsSearch (UpTo bound) }
     {
@@ -127,7 +134,8 @@ impl CommandArguments<'_, '_> {
         }
     }
 
-    // The request for a replay or a search of a guest program.
+    // The request for a replay of a guest program, for a search of it, or for a search with a trace
+    // of the schedule that it finds.
     fn guest_request(&self) -> Result<GuestRequest, AllocError> {
         Ok(if self.name == "replay" {
             GuestRequest::Replay {
@@ -163,7 +171,8 @@ impl CommandArguments<'_, '_> {
         })
     }
 
-    // The form in which an explanation is told.
+    // The form in which an explanation is told: an HTML page, JSON, or text of a width, with the
+    // most steps that are all shown.
     fn explain_form(&self) -> ExplainForm {
         if self.words.get_flag("html") {
             return ExplainForm::Html;
@@ -229,7 +238,8 @@ impl CommandArguments<'_, '_> {
         })
     }
 
-    // The request to join parts, unless standard input would be both the guest program and parts.
+    // The request to join parts. Refused where the words name standard input both for the guest
+    // program and for parts.
     fn join_request(&self) -> Result<JoinRequest, WordsFault> {
         let file = self.word("FILE")?;
         let parts = self.all_words("PART")?;
@@ -249,13 +259,14 @@ impl CommandArguments<'_, '_> {
     }
 }
 
-/// What the command words ask for. The first word is the program's own name.
+/// Parses the command words into the request that they make. The first word is the program's own
+/// name.
 ///
 /// # Errors
 ///
 /// What `clap` says of the words, a request for help or for the version included, or
 /// `OutOfMemory`.
-pub fn request(alloc: Global, words: &[String]) -> Result<Request, WordsFault> {
+pub fn parse_request(alloc: Global, words: &[String]) -> Result<Request, WordsFault> {
     let matches = ctxbound_command(alloc)?.try_get_matches_from(words)?;
     let (name, words) = matches.subcommand().unwrap_or(("replay", &matches));
     let given = CommandArguments { alloc, name, words };

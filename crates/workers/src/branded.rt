@@ -15,7 +15,7 @@ use items::item::Item;
 use std::alloc::{AllocError, Global};
 use std::marker::{Brand, Model, PhantomData};
 
-/// Which search a book is of. Each stretch of rounds picks it.
+/// The search that a book is of, for contracts alone. Each stretch of rounds picks its search.
 pub(crate) trait SearchBrand {
     ghost use Rattle.std.specs.Prelude.{Bool};
     ghost use Rattle.items.specs.declared.mode.Mode.{Mode};
@@ -30,7 +30,7 @@ pub(crate) trait SearchBrand {
     ghost lists: { Bool };
 }
 
-// What stands here is never used: each call picks its own.
+// No value that stands here is ever used: each call picks the values of its own search.
 impl SearchBrand for Brand {
     ghost use Rattle.std.specs.Prelude.{[], false};
     ghost use Rattle.items.specs.declared.mode.Mode.TheVariants.{Reduced};
@@ -71,7 +71,7 @@ impl<N: SearchBrand> Model for BrandedBook<N> {
 }
 
 impl<N: SearchBrand> BrandedBook<N> {
-    /// A book of this search.
+    /// Marks a book of the search `N` as such.
     pub fn new(book: Book) -> BrandedBook<N>
         requires { IsOf book N.of N.mode N.quick N.lists }
         ensures { result ≡ book }
@@ -82,14 +82,14 @@ impl<N: SearchBrand> BrandedBook<N> {
         }
     }
 
-    /// The book.
+    /// The book, without its mark.
     pub fn book(&self) -> &Book
         ensures { result.now ≡ self.now }
     {
         &self.book
     }
 
-    /// The book.
+    /// Takes the mark off the book.
     pub fn into_book(self) -> Book
         ensures same { result ≡ self }
         ensures of { IsOf result N.of N.mode N.quick N.lists }
@@ -97,9 +97,9 @@ impl<N: SearchBrand> BrandedBook<N> {
         self.book
     }
 
-    /// Settles the walks of a round that a worker keeps, all at once, and it keeps none then. They
-    /// are given up where their items aren't open in that order, or what they put off isn't listed
-    /// and the book lists it.
+    /// Settles the walks of a round that a worker keeps, all at once; the worker keeps none then.
+    /// The walks are given up where their items aren't open in that order, or where the book lists
+    /// what is put off and the walks don't.
     ///
     /// # Errors
     ///
@@ -131,9 +131,9 @@ impl<N: SearchBrand> BrandedBook<N> {
         Ok(())
     }
 
-    /// Goes from a round to the next where the search does so whatever the round found: some items
-    /// are open, fewer than those from which on workers have rounds of their own, and no limit is
-    /// reached. A quick book first drops what can't hold the first bad schedule any more.
+    /// Goes on after a round. Answers whether another round follows whatever was found: items are
+    /// open, fewer than `own_from`, from which number on workers have rounds of their own, and no
+    /// limit is reached. A quick book first drops what can't hold the first bad schedule any more.
     pub fn advance(&mut self, limit: Option<u64>, own_from: usize) -> bool
         ensures book { self.new ≡ thinned self.old }
         ensures answer { IsTrue result ↔ GoesOn limit own_from self.new }
@@ -149,7 +149,7 @@ impl<N: SearchBrand> BrandedBook<N> {
         }
     }
 
-    /// Writes copies of the items of the next round over these.
+    /// Writes copies of the items of the next round over `items`.
     ///
     /// # Errors
     ///

@@ -11,7 +11,7 @@ ghost use Rattle.workers.specs.inner.Rounds.{IsRoundOf, Follows, GoesOn};
 
 use crate::branded::{BrandedBook, SearchBrand};
 use crate::gate::Gate;
-use crate::limits::APART;
+use crate::limits::PADDING_WORDS;
 use crate::round::Round;
 use book::books::Book;
 use book::progress::Progress;
@@ -21,11 +21,11 @@ use std::alloc::{AllocError, Global};
 use std::mem;
 use std::sync::Arc;
 
-/// The book of a search, and its round.
+/// What workers share under a lock: the book of a search, and the round that they walk.
 #[derive(Drop)]
 pub(crate) struct Desk<N: SearchBrand> {
-    /// What stands before it in memory is the lock, which workers try while one is at the desk.
-    apart: [u64; APART],
+    /// Padding after the lock, which workers try while one of them is at the desk.
+    padding: [u64; PADDING_WORDS],
     pub book: BrandedBook<N>,
     limit: Option<u64>,
     /// From how many open items on workers have rounds of their own.
@@ -61,14 +61,14 @@ impl<N: SearchBrand> Desk<N> {
         let none = Round {
             mode: book.mode(),
             quick: book.is_quick(),
-            lists: book.lists(),
+            lists: book.lists_deferred(),
             quota: options.quota,
             turn: 0,
             first: 0,
             items: Vec::new(alloc),
         };
         let mut desk = Desk {
-            apart: [0; APART],
+            padding: [0; PADDING_WORDS],
             book: BrandedBook::new(book),
             limit: options.limit,
             own_from,
@@ -82,14 +82,14 @@ impl<N: SearchBrand> Desk<N> {
         Ok(desk)
     }
 
-    /// The book.
+    /// The book, when the stretch is over.
     pub fn into_book(self) -> Book
         ensures { IsOf result N.of N.mode N.quick N.lists }
     {
         self.book.into_book()
     }
 
-    /// The round, if the stretch is not over.
+    /// The round that the workers walk, if the stretch is not over.
     pub fn round(&self) -> Option<Arc<Round>>
         ensures { IfSome result (λ r. IsRoundOf N.of.program N.mode (arc_value r)) }
     {
@@ -99,7 +99,7 @@ impl<N: SearchBrand> Desk<N> {
         Arc::try_clone(&self.round).ok()
     }
 
-    // The items of the round before, for their memory, if no worker has that round any more.
+    // The last round's items, for their memory, if no worker has that round any more; else none.
     fn spare_items(&mut self, alloc: Global) -> Vec<Item>
         ensures items { AreOf N.of.program result.items }
         ensures same { (self.new.book ≡ self.old.book) × (self.new.round ≡ self.old.round)
@@ -116,11 +116,11 @@ impl<N: SearchBrand> Desk<N> {
         }
     }
 
-    // Begins the next round. Where nothing is open the stretch is over.
+    // Begins the next round of the stretch. Where nothing is open the stretch is over.
     //
     // # Errors
     //
-    // `AllocError` where memory runs out. The round is the last one then.
+    // `AllocError` where memory runs out. The desk keeps the round that it had then.
     fn next_round(&mut self, alloc: Global) -> Result<(), AllocError>
         ensures round { OnOk result
             (Follows self.old.book (arc_value self.old.round) (arc_value self.new.round)) }
@@ -151,7 +151,7 @@ impl<N: SearchBrand> Desk<N> {
     }
 
     /// Takes note that `done` more items of the round are settled or given up, and whether the
-    /// stretch ends with the round. Answers whether all of them are.
+    /// stretch `ends` with the round. Answers whether all items of the round are done.
     pub fn note_done(&mut self, done: usize, ends: bool) -> bool
         ensures answer { IsTrue result ↔ self.new.left ≡ 0 }
         ensures left { self.new.left ≡ self.old.left - done }
@@ -165,8 +165,8 @@ impl<N: SearchBrand> Desk<N> {
         self.left == 0
     }
 
-    /// Ends the round, where all its items are done: another one begins, and the gate is told so,
-    /// or the stretch is over, as it is where workers may have rounds of their own.
+    /// Ends a round of which all items are done: another round begins, and the gate is told how far
+    /// the search is, or the stretch is over, as where workers may have rounds of their own.
     ///
     /// # Errors
     ///

@@ -10,15 +10,15 @@ use report::ExploreError;
 #[derive(Clone, Copy, Debug, PartialEq, Eq)]
 pub enum Exit {
     /// The stretch of rounds is over, or the board has no number any more.
-    Drawn,
-    /// The gate stopped it.
+    Finished,
+    /// The gate stopped a worker.
     Stopped,
     /// Memory ran out.
     OutOfMemory,
 }
 
 impl Exit {
-    /// Whether a worker was stopped.
+    /// Whether a worker was stopped by the gate.
     ///
     /// # Errors
     ///
@@ -31,7 +31,7 @@ impl Exit {
         ensures error { IfErr result (λ e. e ≡ explore.OutOfMemory) }
     {
         match self {
-            Exit::Drawn => Ok(false),
+            Exit::Finished => Ok(false),
             Exit::Stopped => Ok(true),
             Exit::OutOfMemory => Err(ExploreError::OutOfMemory),
         }

@@ -11,7 +11,7 @@ ghost use Rattle.workers.specs.inner.Loans.{IsLent, MayLend};
 
 use crate::branded::SearchBrand;
 use crate::gate::Gate;
-use crate::limits::{APART, SHARES};
+use crate::limits::{PADDING_WORDS, SHARES};
 use crate::worker::Worker;
 use book::books::Book;
 use book::lending::LendingBook;
@@ -23,18 +23,18 @@ use std::marker::PhantomData;
 /// What a worker does next.
 #[derive(Clone, Copy)]
 pub(crate) enum Task {
-    /// It walks what it was lent.
+    /// The worker walks what it was lent.
     Walk,
-    /// It waits for this turn to end.
+    /// The worker waits for the turn with this number to end.
     Wait(u64),
-    /// It quits: nothing more is lent in this stretch.
+    /// The worker quits: nothing more is lent in this stretch.
     Quit,
 }
 
 /// A book that lends each worker rounds of its own.
 #[derive(Drop)]
 pub(crate) struct Lender<N: SearchBrand> {
-    apart: [u64; APART],
+    padding: [u64; PADDING_WORDS],
     book: LendingBook,
     workers: usize,
     limit: Option<u64>,
@@ -45,7 +45,7 @@ pub(crate) struct Lender<N: SearchBrand> {
     ends: bool,
     /// Whether memory was refused to a worker.
     refused: bool,
-    /// Whether a worker waits for what those leave who walk.
+    /// Whether a worker waits for items that workers who walk now may leave.
     waits: bool,
     /// The turn that ended last.
     turn: u64,
@@ -54,7 +54,7 @@ pub(crate) struct Lender<N: SearchBrand> {
 }
 
 impl<N: SearchBrand> Lender<N> {
-    /// A lender of a book's open items, to so many workers.
+    /// A lender of a book's open items, to so many `workers`.
     ///
     /// # Errors
     ///
@@ -69,7 +69,7 @@ impl<N: SearchBrand> Lender<N> {
         requires all { book.dropped ≡ false }
     {
         Ok(Lender {
-            apart: [0; APART],
+            padding: [0; PADDING_WORDS],
             quick: book.is_quick(),
             book: LendingBook::new(alloc, book, workers)?,
             workers,
@@ -83,7 +83,7 @@ impl<N: SearchBrand> Lender<N> {
         })
     }
 
-    /// The book. What is lent is open.
+    /// The book, when the stretch is over. What is lent is open.
     ///
     /// # Errors
     ///
@@ -97,7 +97,7 @@ impl<N: SearchBrand> Lender<N> {
         self.book.into_book(alloc)
     }
 
-    // How many items a worker is lent now: few where few are free, so that nobody waits long.
+    // How many items a worker is lent at most: few where few are free, so that nobody waits long.
     fn share(&self) -> usize
         ensures { result ≤ ROUND }
     {
@@ -106,7 +106,7 @@ impl<N: SearchBrand> Lender<N> {
         share.unwrap_or(1).max(1).min(ROUND)
     }
 
-    /// Lends a worker a round of its own, if anything is free. Answers what it does next.
+    /// Lends a worker a round of its own, if any item is free. Answers what the worker does next.
     pub fn lend(&mut self, alloc: Global, worker: u32, loan: &mut Loan) -> Task
         ensures walk { result ≡ Walk → (self.old.ends ≡ false) × IsLent N.of.program loan.new }
         ensures quit { result ≡ Quit → (self.new.ends ≡ true)
@@ -131,7 +131,7 @@ impl<N: SearchBrand> Lender<N> {
         Task::Quit
     }
 
-    // Whether more is lent: the limit isn't reached, and a quick search found no bad schedule.
+    // Whether more items are lent: the limit isn't reached, and a quick search found nothing bad.
     fn goes_on(&self) -> bool
         ensures { IsTrue result ↔ MayLend self.now.limit self.now.quick self.now.book.finished }
     {
@@ -145,8 +145,8 @@ impl<N: SearchBrand> Lender<N> {
         }
     }
 
-    /// Settles what a worker's walks of all that it was lent found. The gate is told how far the
-    /// search is where it goes on: else nothing more is lent.
+    /// Settles what a worker's walks of all items of its loan found. Where the search goes on, the
+    /// gate is told how far the search is; else nothing more is lent.
     pub fn settle<G: Gate>(&mut self, alloc: Global, worker: &mut Worker, loan: &Loan, gate: &G)
         requires loan { IsLoanOf N.of.program loan.now }
         requires walked { let items = all_of N.of.program loan.now in
@@ -171,7 +171,7 @@ impl<N: SearchBrand> Lender<N> {
         }
     }
 
-    /// Gives up what a worker was lent to whom memory was refused: it stays open. No more is lent.
+    /// Gives up a worker's loan where memory was refused: the items stay open. No more is lent.
     pub fn give_up(&mut self)
         ensures { (self.new.ends ≡ true) × (self.new.refused ≡ true) }
     {
@@ -180,7 +180,7 @@ impl<N: SearchBrand> Lender<N> {
         self.ends = true;
     }
 
-    /// The turn that ends now, if a worker waits that has something to do.
+    /// Ends a turn, if a worker waits that has something to do now, and answers the turn's number.
     pub fn end_turn(&mut self) -> Option<u64>
         ensures { IfNone result (self.old.waits ≡ true → (0 < self.old.walking)
             × (self.old.ends ≡ false) × (length self.old.book.free ≡ 0)) }

@@ -23,6 +23,6 @@ mod team;
 mod worker;
 
 pub use exit::Exit;
-pub use gate::{Decision, Gate, Open};
+pub use gate::{Answer, Gate, Open};
 pub use limits::WORKERS;
 pub use team::Team;

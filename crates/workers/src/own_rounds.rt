@@ -11,7 +11,7 @@ ghost use Rattle.workers.specs.Teams.{IsOf, IsTeam};
 ghost use Rattle.workers.specs.inner.Loans.{IsLent};
 
 use crate::branded::SearchBrand;
-use crate::gate::{Decision, Gate};
+use crate::gate::{Answer, Gate};
 use crate::lender::{Lender, Task};
 use crate::limits::WORKERS;
 use crate::monitor::Monitor;
@@ -27,7 +27,7 @@ use std::sync::{Arc, Wait};
 use std::thread;
 use std::thread::Threads;
 
-/// What the workers share: how items are walked, a gate that may not stop, and the lender.
+/// What workers with rounds of their own share: how to walk, a gate that may not stop, the lender.
 #[derive(Drop)]
 pub(crate) struct Lending<'a, N: SearchBrand, G: Gate> {
     pub alloc: Global,
@@ -42,7 +42,7 @@ pub(crate) struct Lending<'a, N: SearchBrand, G: Gate> {
 }
 
 impl<N: SearchBrand, G: Gate> Lending<'_, N, G> {
-    // Walks what a worker was lent, in its order, written over other items, if it gets memory.
+    // Walks what a worker was lent, in the loan's order; writes copies of the items over `items`.
     fn walk_loan(
         &self,
         worker: &mut Worker,
@@ -60,7 +60,7 @@ impl<N: SearchBrand, G: Gate> Lending<'_, N, G> {
         worker.walker.clear(&mut worker.found, self.lists);
         loan.write_items(self.alloc, &self.program, items)?;
         for place in 0..items.len() {
-            if self.gate.before(worker.number, place as u64) == Decision::Stop {
+            if self.gate.before(worker.number, place as u64) == Answer::Stop {
                 unreachable!()
             }
             let (item, found) = (&items[place], &mut worker.found);
@@ -72,8 +72,8 @@ impl<N: SearchBrand, G: Gate> Lending<'_, N, G> {
         Ok(())
     }
 
-    // A worker walks what it was lent. Then, in one hold of the lock, it settles what it found, is
-    // lent more, and ends the turn of those who wait. Answers what it does next.
+    // Lets a worker walk what it was lent. In one hold of the lock, the worker then settles what it
+    // found, is lent more, and ends the turn of those who wait. Answers what the worker does next.
     fn walk_round<R: Wait>(
         &self,
         rt: &R,
@@ -103,14 +103,14 @@ impl<N: SearchBrand, G: Gate> Lending<'_, N, G> {
         next
     }
 
-    // A worker walks rounds of its own, until nothing more is lent.
+    // Lets a worker walk rounds of its own, until nothing more is lent.
     fn work<R: Wait>(&self, rt: &R, worker: &mut Worker)
         requires { worker.old.walker ≡ N.of.program }
         ensures { worker.new.walker ≡ N.of.program }
     {
         let mut loan = Loan::new(self.alloc);
         let mut items = Vec::new(self.alloc);
-        // That turn has ended before there is any.
+        // Turn 0 has ended from the start, so nobody waits for it.
         let mut next = Task::Wait(0);
         for _ in rt.forever() {
             next = match next {
@@ -127,7 +127,7 @@ impl<N: SearchBrand, G: Gate> Lending<'_, N, G> {
     }
 }
 
-// Lets all workers work, each in a thread. Those for which none can be made work one after another.
+// Lets all workers walk rounds of their own, each in a thread, or one by one where none is made.
 fn work_all<N: SearchBrand + Send + Sync, G: Gate, R: Threads + Wait + Sync>(
     rt: &R,
     lending: &Lending<N, G>,
@@ -169,7 +169,7 @@ pub(crate) fn walk_own_rounds<N: SearchBrand + Send + Sync, G: Gate, R: Threads 
         alloc,
         program: Arc::try_clone(book.program())?,
         mode: book.mode(),
-        lists: book.lists(),
+        lists: book.lists_deferred(),
         quota: options.quota,
         gate,
         monitor: Monitor::new(Lender::<N>::new(alloc, book, workers.len(), options.limit)?),

@@ -7,23 +7,23 @@ use board::NONE_TOLD;
 use items::item::Item;
 use items::mode::Mode;
 
-/// The items of a round, and how they are walked. Nobody changes it while workers have it.
+/// The items of a round, and how they are walked. Nobody changes a round while workers have it.
 #[derive(Drop)]
 pub(crate) struct Round {
     pub mode: Mode,
     pub quick: bool,
-    /// Whether what its walks put off is listed.
+    /// Whether what walks of the round put off is listed.
     pub lists: bool,
     pub quota: u32,
-    /// Which round of its stretch it is, counted from 1.
+    /// Which round of its stretch the round is, counted from 1.
     pub turn: u64,
-    /// The number of its first item on the board. Those of a round follow those of the one before.
+    /// The number of the round's first item on the board. Later rounds' items have the next ones.
     pub first: u64,
     pub items: Vec<Item>,
 }
 
 impl Round {
-    /// The place of the item with a number of the board, if it is of this round.
+    /// The place in the round of the item with this number on the board, if it is of the round.
     pub fn place_of(&self, number: u64) -> Option<usize>
         ensures some { IfSome result (λ k. k < vec_len self.now.items) }
         ensures number { IfSome result (λ k. self.now.first + k ≡ number) }
@@ -38,7 +38,7 @@ impl Round {
         }
     }
 
-    /// How many of its items come before this one, in the order of schedules.
+    /// How many of the round's items come before this item, in the order of schedules.
     pub fn rank_of(&self, item: &Item) -> u64
         ensures { result ≡ rank self.now.items.items item.now }
     {
@@ -51,8 +51,8 @@ impl Round {
         before
     }
 
-    /// Whether a quick search leaves an item out for now, where this is the least rank told of an
-    /// item with a bad schedule: the item comes after that one, in the order of schedules.
+    /// Whether a quick search leaves an item out for now, where `least` is the least rank told of
+    /// an item with a bad schedule: the item comes after that one, in the order of schedules.
     pub fn leaves_out(&self, item: &Item, least: u64) -> bool
         ensures { IsTrue result ↔ least < rank self.now.items.items item.now }
     {

@@ -3,14 +3,14 @@
 ghost use Rattle.std.specs.Prelude.{◌≡◌, ◌<◌, ◌≤◌, ◌↔◌, ℕ, [], true, false, vec_len, Some, None, OnOk, IfSome, IfNone, IsTrue};
 ghost use Rattle.std.specs.List.{All, Any};
 ghost use Rattle.workers.specs.declared.limits.TheConstants.{KEPT_WALKS};
-ghost use Rattle.workers.specs.declared.exit.Exit.TheVariants.{Drawn, Stopped, OutOfMemory};
+ghost use Rattle.workers.specs.declared.exit.Exit.TheVariants.{Finished, Stopped, OutOfMemory};
 ghost use Rattle.board.specs.Claims.{Draws, IsAnswered, marked, with_told};
 ghost use Rattle.workers.specs.inner.Rounds.{IsRoundOf, IsOn, AreKept, rank};
 
 use crate::branded::SearchBrand;
 use crate::desk::Desk;
 use crate::exit::Exit;
-use crate::gate::{Decision, Gate};
+use crate::gate::{Answer, Gate};
 use crate::limits::WORKERS;
 use crate::monitor::Monitor;
 use crate::round::Round;
@@ -22,7 +22,7 @@ use std::sync::Wait;
 use std::thread::Threads;
 use std::{mem, thread};
 
-/// What the workers share: a gate, the board that numbers of items are drawn from, and the desk.
+/// What workers of shared rounds share: a gate, the board to draw items' numbers from, the desk.
 #[derive(Drop)]
 pub(crate) struct Shared<'a, N: SearchBrand, G> {
     pub alloc: Global,
@@ -35,17 +35,17 @@ pub(crate) struct Shared<'a, N: SearchBrand, G> {
 #[derive(Drop)]
 pub(crate) struct SeatedWorker {
     pub seat: Seat,
-    /// The number that it drew last, where the item is of a later round.
+    /// The number that the worker drew last, where the item is of a later round.
     pub ahead: Option<u64>,
-    /// How many items of the round it drew of which the desk has not taken note yet.
+    /// How many items of the round the worker drew of which the desk has not taken note yet.
     pub drawn: usize,
     pub exit: Exit,
     pub worker: Worker,
 }
 
 impl SeatedWorker {
-    // The next number: the one that it drew ahead, or one from the board.
-    fn draw(&mut self, board: &Board) -> Option<u64>
+    // Draws the next number of the worker: the one that it drew ahead, or one from the board.
+    fn draw_number(&mut self, board: &Board) -> Option<u64>
         requires { self.old.seat.board ≡ board.now.id }
         ensures ahead { IfSome self.old.ahead (λ k. (result ≡ Some k)
             × (self.new.seat ≡ self.old.seat)) }
@@ -62,7 +62,7 @@ impl SeatedWorker {
         }
     }
 
-    // Whether a quick search leaves an item out for now.
+    // Whether a quick search leaves an item out for now, given the least rank told on the board.
     fn leaves_out(&mut self, board: &Board, round: &Round, item: &Item) -> bool
         requires { self.old.seat.board ≡ board.now.id }
         ensures whole { round.now.quick ≡ false → result ≡ false }
@@ -79,8 +79,8 @@ impl SeatedWorker {
         round.leaves_out(item, least)
     }
 
-    // Tells the other workers that an item has a bad schedule.
-    fn tells_of(&mut self, board: &Board, round: &Round, item: &Item)
+    // Tells the other workers, on the board, that an item of a round has a bad schedule.
+    fn tell_bad_item(&mut self, board: &Board, round: &Round, item: &Item)
         requires { self.old.seat.board ≡ board.now.id }
         ensures told { self.new ≡ record self.old {
           seat = with_told self.old.seat (rank round.now.items.items item.now);
@@ -89,8 +89,8 @@ impl SeatedWorker {
         board.tell(&mut self.seat, round.rank_of(item));
     }
 
-    // Works from round to round, until the stretch is over, the board has no number any more, the
-    // gate stops it or memory runs out.
+    // Lets the worker go from round to round, until the stretch is over, the board has no number
+    // any more, the gate stops the worker or memory runs out. Answers which.
     fn work<N: SearchBrand, G: Gate, R: Wait>(&mut self, rt: &R, shared: &Shared<N, G>) -> Exit
         requires { IsOn shared.now.board.id N.of.program self.old }
         ensures on { IsOn shared.now.board.id N.of.program self.new }
@@ -98,7 +98,7 @@ impl SeatedWorker {
     {
         for _ in rt.forever() {
             let Some(round) = shared.monitor.lock(rt).round() else {
-                return Exit::Drawn;
+                return Exit::Finished;
             };
             if let Some(exit) = self.work_round(rt, shared, &round) {
                 return exit;
@@ -108,8 +108,8 @@ impl SeatedWorker {
         unreachable!()
     }
 
-    // Works in a round, until all its items are drawn, and settles what it walked. Answers how it
-    // ended where it can't go on.
+    // Lets the worker walk items of a round, until all are drawn, and settles the walks. Answers
+    // how the worker ended, if it can't go on.
     fn work_round<N: SearchBrand, G: Gate, R: Wait>(
         &mut self,
         rt: &R,
@@ -132,8 +132,8 @@ impl SeatedWorker {
         }
     }
 
-    // Settles the walks that it keeps of a round at the desk. Where the last items of the round are
-    // done then, it ends the round and tells those who wait.
+    // Settles at the desk a round's walks that the worker keeps; the stretch `ends` with the round
+    // or not. Where the round's last items are done then, ends the round and tells those who wait.
     //
     // # Errors
     //
@@ -165,9 +165,9 @@ impl SeatedWorker {
         ended
     }
 
-    // Settles the walks that it keeps before all items are drawn, where they are as many as it may
-    // keep, or the last one, of this item, found a bad schedule in a quick search. Then it tells
-    // the other workers of the item: that is of this round alone, so the stretch ends with it.
+    // Settles the walks that the worker keeps before all items are drawn, where they are as many as
+    // it may keep, or the last walk, of `item`, found a bad schedule in a quick search. Others
+    // are told of the item then: its rank is one in this round, so the stretch ends with the round.
     //
     // # Errors
     //
@@ -193,13 +193,13 @@ impl SeatedWorker {
         }
         self.settle(rt, shared, round, ends)?;
         if ends {
-            self.tells_of(&shared.board, round, item);
+            self.tell_bad_item(&shared.board, round, item);
         }
         Ok(())
     }
 
-    // Draws items of a round and walks them, until all are drawn. Answers how it ended where it
-    // can't go on.
+    // Lets the worker draw items of a round and walk these, until all are drawn. Answers how the
+    // worker ended, if it can't go on.
     fn walk_items<N: SearchBrand, G: Gate, R: Wait>(
         &mut self,
         rt: &R,
@@ -215,8 +215,8 @@ impl SeatedWorker {
         ensures stopped { result ≡ Some Stopped → G.stops shared.now.gate.now ≡ true }
     {
         for _ in rt.forever() {
-            let Some(number) = self.draw(&shared.board) else {
-                return Some(Exit::Drawn);
+            let Some(number) = self.draw_number(&shared.board) else {
+                return Some(Exit::Finished);
             };
             let Some(place) = round.place_of(number) else {
                 self.ahead = Some(number);
@@ -227,7 +227,7 @@ impl SeatedWorker {
             if self.leaves_out(&shared.board, round, item) {
                 continue;
             }
-            if shared.gate.before(self.worker.number, place as u64) == Decision::Stop {
+            if shared.gate.before(self.worker.number, place as u64) == Answer::Stop {
                 return Some(Exit::Stopped);
             }
             let Ok(is_bad) = self.worker.walk(shared.alloc, round, place) else {
@@ -243,8 +243,8 @@ impl SeatedWorker {
     }
 }
 
-/// Lets all workers work, each in a thread of its own. Those for which no thread can be made work
-/// one after another.
+/// Lets all workers walk shared rounds, each in a thread of its own. Those for which no thread can
+/// be made do so one after another.
 pub(crate) fn work_all<N: SearchBrand + Send + Sync, G: Gate, R: Threads + Wait + Sync>(
     rt: &R,
     shared: &Shared<N, G>,
@@ -270,13 +270,13 @@ pub(crate) fn exit_of(workers: &[SeatedWorker]) -> Exit
     ensures stopped { result ≡ Stopped → Any (λ w. w.exit ≡ Stopped) workers.now }
     ensures memory { result ≡ OutOfMemory → Any (λ w. w.exit ≡ OutOfMemory) workers.now }
     ensures none { (result ≡ OutOfMemory → ⊥) → All (λ w. w.exit ≡ OutOfMemory → ⊥) workers.now }
-    ensures drawn { result ≡ Drawn → All (λ w. w.exit ≡ Drawn) workers.now }
+    ensures drawn { result ≡ Finished → All (λ w. w.exit ≡ Finished) workers.now }
 {
     if workers.iter().any(|w| w.exit == Exit::OutOfMemory) {
         Exit::OutOfMemory
     } else if workers.iter().any(|w| w.exit == Exit::Stopped) {
         Exit::Stopped
     } else {
-        Exit::Drawn
+        Exit::Finished
     }
 }

@@ -22,7 +22,7 @@ use std::alloc::{AllocError, Global};
 use std::sync::{Arc, Wait};
 use std::thread::Threads;
 
-/// The book that its rounds are of, the board of its items' numbers, and a worker for each seat.
+/// A stretch: the book of its rounds, the board of its items' numbers, and a worker for each seat.
 #[derive(Drop)]
 pub(crate) struct Stretch {
     pub book: Book,
@@ -30,7 +30,7 @@ pub(crate) struct Stretch {
     pub seated: Vec<SeatedWorker>,
 }
 
-// Gives each worker a seat.
+// Gives each worker of a program a seat of a board.
 fn assign_seats(
     alloc: Global,
     board: &Board,
@@ -54,13 +54,13 @@ fn assign_seats(
             worker,
             ahead: None,
             drawn: 0,
-            exit: Exit::Drawn,
+            exit: Exit::Finished,
         })?;
     }
     Ok(seated)
 }
 
-// The seats of workers, which go back to the board, and the workers, which are kept.
+// Takes workers off their seats: answers the seats, for the board to end, and the workers, to keep.
 fn collect_seats<N: SearchBrand>(
     alloc: Global,
     board: &Board,
@@ -83,7 +83,7 @@ fn collect_seats<N: SearchBrand>(
 }
 
 impl Stretch {
-    /// A stretch of a team's rounds that begins with these seats of a board.
+    /// A stretch of rounds of a team, whose workers have these seats of a board.
     pub fn new(
         alloc: Global,
         team: Team,

@@ -7,7 +7,7 @@ ghost use Rattle.workers.specs.declared.exit.Exit.TheVariants.{Stopped};
 ghost use Rattle.workers.specs.Teams.{IsOf, IsTeam};
 
 use crate::exit::Exit;
-use crate::gate::{Decision, Gate};
+use crate::gate::{Answer, Gate};
 use crate::own_rounds::walk_own_rounds;
 use crate::stretch::Stretch;
 use crate::worker::Worker;
@@ -25,12 +25,12 @@ use walk::walker::walk;
 /// A search's book and its workers: all that is kept from one stretch to the next.
 #[derive(Drop)]
 pub struct Team {
-    /// The book.
+    /// The book of the search.
     pub book: Book,
     pub(crate) workers: Vec<Worker>,
 }
 
-// Walks a round of a book in its items' order, and settles each walk, as the first worker.
+// Walks a round of a book in the items' order, and settles each walk, as the team's first worker.
 //
 // # Errors
 //
@@ -48,7 +48,7 @@ fn walk_in_order<G: Gate>(
 {
     let items = book.round(alloc)?;
     for k in 0..items.len() {
-        if gate.before(0, k as u64) == Decision::Stop {
+        if gate.before(0, k as u64) == Answer::Stop {
             return Ok(Exit::Stopped);
         }
         let walked = walk(alloc, &items[k], book.mode(), quota)?;
@@ -57,11 +57,11 @@ fn walk_in_order<G: Gate>(
             return Err(AllocError);
         }
     }
-    Ok(Exit::Drawn)
+    Ok(Exit::Finished)
 }
 
-// From how many open items on each worker has rounds of its own, if they may have any.
-fn own_from<G: Gate>(gate: &G, book: &Book, workers: usize) -> Option<usize>
+// From how many open items on each worker has rounds of its own, if workers may have such rounds.
+fn own_rounds_from<G: Gate>(gate: &G, book: &Book, workers: usize) -> Option<usize>
     ensures open { IfSome result (λ _. G.stops gate.now ≡ false) }
     ensures all { IfSome result (λ _. book.now.dropped ≡ false) }
 {
@@ -88,11 +88,11 @@ impl Team {
     }
 
     /// Walks a stretch of rounds, at least one, and settles the walks, until what follows the last
-    /// one has to be judged, or workers may have rounds of their own from there on. It is known of
-    /// the book then that it is of the same search, and what its type keeps.
+    /// round has to be judged, or workers may have rounds of their own from there on. The book is
+    /// of the same search then; all else that is known of the book is in its type.
     /// Where the gate may not stop, a round of items is open for each worker and a quick search has
     /// found no bad schedule, rounds are the workers' own, lent by the book. Else all share each
-    /// round; where there is memory for no board, the stretch is one that the first worker walks.
+    /// round; where there is no memory for a board, the first worker walks a stretch of one round.
     pub fn walk_rounds<G: Gate, R: Threads + Wait + Sync>(
         mut self,
         rt: &R,
@@ -108,10 +108,10 @@ impl Team {
         ensures stopped { IfOk result (λ r. r.1 ≡ Stopped → G.stops gate.now ≡ true) }
         ensures error { IfErr result (λ e. e ≡ OutOfMemory) }
     {
-        let own_from = match own_from(gate, &self.book, self.workers.len()) {
+        let own_from = match own_rounds_from(gate, &self.book, self.workers.len()) {
             Some(from) if self.book.open_len() >= from => {
                 let team = walk_own_rounds::<Brand, G, R>(self, rt, alloc, gate, options)?;
-                return Ok((team, Exit::Drawn));
+                return Ok((team, Exit::Finished));
             }
             Some(from) => from,
             None => usize::MAX,

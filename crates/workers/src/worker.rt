@@ -6,7 +6,7 @@ ghost use Rattle.workers.specs.declared.limits.TheConstants.{KEPT_WALKS};
 ghost use Rattle.workers.specs.declared.round.Round.{Round};
 ghost use Rattle.workers.specs.inner.Rounds.{IsRoundOf, AreKept};
 
-use crate::limits::{APART, KEPT_WALKS};
+use crate::limits::{KEPT_WALKS, PADDING_WORDS};
 use crate::round::Round;
 use guest_code::program::Program;
 use std::alloc::{AllocError, Global};
@@ -22,12 +22,12 @@ pub(crate) struct Worker {
     pub places: Vec<usize>,
     pub found: Found,
     pub number: u32,
-    /// What follows in memory is another worker's.
-    pub apart: [u64; APART],
+    /// Padding before what follows in memory, which is another worker's.
+    pub padding: [u64; PADDING_WORDS],
 }
 
 impl Worker {
-    /// A worker that keeps no walk, for a program.
+    /// A worker with this number, for a program, that keeps no walk.
     pub fn new(alloc: Global, program: Arc<Program>, number: u32) -> Result<Worker, AllocError>
         ensures { IfOk result (λ b. b.walker ≡ arc_value program) }
     {
@@ -36,11 +36,11 @@ impl Worker {
             places: Vec::new(alloc),
             found: Found::new(alloc),
             number,
-            apart: [0; APART],
+            padding: [0; PADDING_WORDS],
         })
     }
 
-    /// Forgets its walks. Their memory serves later ones, which list what they put off or don't.
+    /// Forgets the worker's walks. Later ones, in their memory, list what is put off if `lists`.
     pub fn forget(&mut self, lists: bool)
         ensures walker { self.new.walker ≡ self.old.walker }
         ensures places { self.new.places.items ≡ [] }
@@ -50,14 +50,14 @@ impl Worker {
         self.places.clear();
     }
 
-    /// Whether it keeps as many walks as it may.
+    /// Whether the worker keeps as many walks as it may.
     pub fn is_full(&self) -> bool
         ensures { result ≡ false → vec_len self.now.places < KEPT_WALKS }
     {
         self.places.len() >= KEPT_WALKS
     }
 
-    // Walks an item of a round, by its place there, and keeps the walk.
+    // Walks the item at a place of a round, and keeps the walk.
     fn walk_on(&mut self, alloc: Global, round: &Round, place: usize) -> Result<(), AllocError>
         requires round { IsRoundOf self.old.walker round.now.mode round.now }
         requires place { place < vec_len round.now.items }
@@ -73,12 +73,12 @@ impl Worker {
         Ok(())
     }
 
-    /// Walks an item of a round, by its place there, and keeps the walk. Answers whether a bad
-    /// schedule was found in the walks that it keeps.
+    /// Walks the item at a place of a round, and keeps the walk. Answers whether a bad schedule was
+    /// found in the walks that the worker keeps.
     ///
     /// # Errors
     ///
-    /// `AllocError` where memory runs out. It keeps no walk then.
+    /// `AllocError` where memory runs out. The worker keeps no walk then.
     pub fn walk(&mut self, alloc: Global, round: &Round, place: usize) -> Result<bool, AllocError>
         requires round { IsRoundOf self.old.walker round.now.mode round.now }
         requires place { place < vec_len round.now.items }

@@ -4,7 +4,7 @@ use Rattle.std.specs.List.{list_any}
 use Rattle.guest_code.specs.declared.limits.TheConstants.{LOCALS, THREADS, VARIABLES}
 use Rattle.guest_code.specs.Program.{Program, code_of}
 use Rattle.causes.specs.declared.event.Event.{Event}
-use Rattle.causes.specs.declared.wanted.Wanted.{Wanted}
+use Rattle.causes.specs.declared.backward_slice.BackwardSlice.{BackwardSlice}
 use Rattle.lint.specs.Uses.{local_set}
 use Rattle.causes.specs.Events.{written_by, is_end, reads, writes, is_use, sets_local, uses_local}
 use Rattle.causes.specs.Asked.{asks_for}
@@ -33,15 +33,15 @@ decides_by p e least =
     is_test e.statement && is_up_to (merge_point (code_of p e.thread) e.instruction) least
 
 -- a write of thread t is missed
-abbrev pub is_missed_by_in : Wanted → ℕ → ℕ → ℕ → Bool
+abbrev pub is_missed_by_in : BackwardSlice → ℕ → ℕ → ℕ → Bool
 is_missed_by_in w t x u = not (nat_eq u t) && (flag w.next u x && nat_lt 0 (count w.uses u x))
 
-abbrev pub is_missed_in : Wanted → ℕ → Option ℕ → Bool
+abbrev pub is_missed_in : BackwardSlice → ℕ → Option ℕ → Bool
 is_missed_in w t None = false
 is_missed_in w t (Some x) = any_below (is_missed_by_in w t x) THREADS
 
 -- an event is needed
-abbrev pub needs : Program → Wanted → Event → Bool
+abbrev pub needs : Program → BackwardSlice → Event → Bool
 needs p w e = is_end e || (found w.read (written_by e.statement e.deed)
     || (found (slice_index_or w.used e.thread []) (local_set e.statement)
     || (decides_by p e (entry w.least e.thread)
@@ -49,7 +49,7 @@ needs p w e = is_end e || (found w.read (written_by e.statement e.deed)
     || list_any (λ end. asks_for p end e) w.ends.items))))
 
 -- the place was moved before an event, marked or not
-pub record IsMovedBefore (e : Event) (mark : Bool) (old new : Wanted) : Type 0 where
+pub record IsMovedBefore (e : Event) (mark : Bool) (old new : BackwardSlice) : Type 0 where
   pub read : (x : ℕ) → x < VARIABLES → slice_index_or new.read x false
       ≡ ((mark && reads x e) || (not (writes x e) && slice_index_or old.read x false))
   pub used : (t r : ℕ) → t < THREADS → r < LOCALS → flag new.used t r

@@ -4,7 +4,7 @@ use Rattle.std.specs.List.{count_by}
 use Rattle.guest_code.specs.declared.limits.TheConstants.{LOCALS, THREADS, VARIABLES}
 use Rattle.guest_code.specs.Program.{Program, code_of, IsValid}
 use Rattle.causes.specs.declared.event.Event.{Event}
-use Rattle.causes.specs.declared.wanted.Wanted.{Wanted}
+use Rattle.causes.specs.declared.backward_slice.BackwardSlice.{BackwardSlice}
 use Rattle.causes.specs.Events.{is_use}
 use Rattle.causes.specs.Causes.{Marked, is_read, is_used, is_next, least_in, ends_in}
 
@@ -15,7 +15,7 @@ pub record IsValidEvent (p : Program) (e : Event) : Type 0 where
   pub statement : IsValid p e.statement
 
 -- this is what is needed of the events before, where these follow
-pub record IsWanted (before : List Event) (ms : List Marked) (w : Wanted) : Type 0 where
+pub record IsWanted (before : List Event) (ms : List Marked) (w : BackwardSlice) : Type 0 where
   pub read : (x : ℕ) → x < VARIABLES → slice_index_or w.read x false ≡ is_read ms x
   pub used : (t r : ℕ) → t < THREADS → r < LOCALS →
       slice_index_or (slice_index_or w.used t []) r false ≡ is_used ms t r

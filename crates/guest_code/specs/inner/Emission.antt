@@ -33,21 +33,21 @@ stmt_code_in context s = stmt_code (names_of context.names) s context.distance_t
 abbrev pub block_code_in : code-context.Context → Block → List Instruction
 block_code_in context b = block_code (names_of context.names) b context.distance_to_exit
 
--- how many instructions these statements come to
+-- how many instructions a list of statements comes to
 abbrev pub size_of : List Placed → ℕ
 size_of body = block_size (block_view body)
 
--- copies of these statements, this many times
+-- the code of statements, as many times over as is said
 abbrev pub copies_of : code-names.Names → List Placed → ℕ → List Instruction
 copies_of names body times = unrolled (block_code (names_of names) (block_view body))
     (size_of body) times
 
--- the objects of a kind among these declarations
+-- the objects of a kind among declarations in memory
 abbrev pub objects_in : {X : Type 0} → (List ℕ → Object → Option X)
     → List code-declaration.Declaration → List X
 objects_in of ds = objects_by of (map declaration_view ds)
 
--- the code of a thread, and of each of these threads
+-- the code of a thread, and of each thread of a list
 abbrev pub thread_code_in : List code-declaration.Declaration → code-thread.Thread → Thread
 thread_code_in ds t = thread_code (map declaration_view ds) (thread_view t)
 

@@ -13,7 +13,7 @@ use Rattle.guest_code.specs.Program.{locals_view}
 use Rattle.guest_code.specs.Uses.{Use, declares, object, local, outside, declarations_uses, uses, kind_in, with_name}
 use Rattle.guest_code.specs.Fault.{object_refusal, local_refusal, Refuses}
 
--- all uses of a tree in memory, and of declarations and threads in memory
+-- all uses in a tree in memory, in declarations in memory, and in those and threads in memory
 unfoldable pub all_uses : code-tree.Tree → List Use
 all_uses t = uses (tree_view t).declarations (tree_view t).threads
 
@@ -34,7 +34,7 @@ passed (Some e) x = Err e
 abbrev pub Checked : Type 0
 Checked = Result (List (List ℕ)) CheckError
 
--- one check, and then another with the locals that it left
+-- one check, and then another with the locals that the first left
 abbrev pub and_then : Checked → (List (List ℕ) → Checked) → Checked
 and_then (Ok ns) f = f ns
 and_then (Err e) f = Err e
@@ -67,7 +67,7 @@ abbrev pub Gives : {X Y : Type 0} → Result X CheckError → Y → Result Y Che
 Gives (Ok x) y checked = checked ≡ Ok y
 Gives (Err e) y checked = Refuses e (fault_of checked)
 
--- what a function returned that met these uses, with the locals before and after it
+-- what a function returned that met some uses, with the locals before the call and after the call
 abbrev pub Meets : {X : Type 0} → Result X CheckError → code-scope.Scope
     → (old new : Vec (Vec ℕ Global) Global) → List Use → Type 0
 Meets result scope old new us = Gives result (locals_view new)

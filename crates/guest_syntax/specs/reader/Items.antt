@@ -13,7 +13,7 @@ abbrev pub many_by : {A : Type 0} → (List Token → Read (List A)) → Option 
 many_by more None ts = Some ([], ts)
 many_by more (Some a) ts = more ts >>= λ x. Some (a ∷ x.0, x.1)
 
--- The number bounds the turns. One more than the count of the tokens is always enough.
+-- Items up to their end, in at most as many turns as is said: the count of tokens and 1 are enough.
 unfoldable pub many : {A : Type 0} → Turn A → ℕ → List Token → Read (List A)
 many turn zero ts = None
 many turn (suc n) ts = do

@@ -20,7 +20,7 @@ unfoldable pub next_at : List Token → Read (Option Token)
 next_at [] = Some (None, [])
 next_at (t ∷ ts) = if is_bad t.kind then None else Some (Some t, ts)
 
--- a token
+-- the next token, which must be there
 unfoldable pub token_at : List Token → Read Token
 token_at [] = None
 token_at (t ∷ ts) = if is_bad t.kind then None else Some (t, ts)
@@ -32,7 +32,7 @@ is_symbol wanted (number n) = false
 is_symbol wanted (symbol s) = symbol-eq.eq-value.it s wanted
 is_symbol wanted bad = false
 
--- this operator or mark
+-- the next token, which must be the wanted operator or mark
 unfoldable pub symbol_from : Symbol → List Token → Option (List Token)
 symbol_from wanted ts = do
   t ← token_at ts
@@ -47,7 +47,7 @@ name_in t = elim t.kind [
   | bad ↦ None
 ]
 
--- a name
+-- the next token, which must be a name
 unfoldable pub name_from : List Token → Read Name
 name_from ts = do
   t ← token_at ts
@@ -61,14 +61,14 @@ number_in limit (number n) = if nat_le n limit then Some n else None
 number_in limit (symbol s) = None
 number_in limit bad = None
 
--- a number up to a limit
+-- the next token, which must be a number up to a limit
 unfoldable pub number_from : ℕ → List Token → Read ℕ
 number_from limit ts = do
   t ← token_at ts
   n ← number_in limit t.0.kind
   Some (n, t.1)
 
--- how often a block is repeated
+-- how often a `repeat` runs its block
 unfoldable pub times_from : List Token → Read ℕ
 times_from ts = do
   t ← token_at ts

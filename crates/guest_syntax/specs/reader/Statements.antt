@@ -13,14 +13,14 @@ use Rattle.guest_syntax.specs.reader.SingleTokens.{token_at, symbol_from, name_f
 use Rattle.guest_syntax.specs.reader.Expressions.{operand_from, expr_from}
 use Rattle.guest_syntax.specs.reader.Items.{Turn, all_from}
 
--- a name and the end
+-- a name and a `;`
 unfoldable pub one_name_from : List Token → Read Name
 one_name_from ts = do
   n ← name_from ts
   e ← symbol_from symbols.End n.1
   Some (n.0, e)
 
--- two names and the end
+-- two names and a `;`
 unfoldable pub two_names_from : List Token → Read (Name × Name)
 two_names_from ts = do
   n ← name_from ts
@@ -91,7 +91,7 @@ unfoldable pub is_else : TokenKind → Bool
 is_else (keyword keywords.Else) = true
 is_else _ = false
 
--- a choice, whose first block was read, and what may be `else`
+-- an `if`, whose first block was read, and what may be `else`
 abbrev pub choice_by : (List Token → Read Block) → Expr → Block → List Token → List Token → Bool
     → Read Stmt
 choice_by block e b before following false = Some (tree.if_then e b, before)
@@ -117,7 +117,7 @@ statement_by block keywords.If ts = choice_from block ts
 statement_by block keywords.Repeat ts = repeat_from block ts
 statement_by block w ts = simple_by w ts
 
--- a statement, whose keyword was read at this place, or the end of a block
+-- a statement, whose keyword was read at a place, or the end of a block
 abbrev pub turn_by : (List Token → Read Block) → TokenKind → Pos → List Token → Read (Option Placed)
 turn_by block (symbol symbols.Close) at ts = Some (None, ts)
 turn_by block (keyword w) at ts = statement_by block w ts >>= λ s.

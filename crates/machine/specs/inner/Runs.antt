@@ -8,7 +8,7 @@ use Rattle.semantics.specs.Reachable.{IsOf}
 use Rattle.schedules.specs.Schedules.{state_after}
 use Rattle.machine.specs.declared.control.Control.{Control}
 use Rattle.machine.specs.declared.machine.Run.{Run}
-use Rattle.machine.specs.declared.control.steps.Moving.{Moving}
+use Rattle.machine.specs.declared.control.steps.MovingThread.{MovingThread}
 use Rattle.machine.specs.Refinement.{IsControl}
 use Rattle.machine.specs.inner.Steps.{HasShared, IsPassed}
 
@@ -18,7 +18,7 @@ run_to p s t n = state_after p s (replicate n t)
 
 -- thread t took its steps from s on, and is in the midst of the last one
 pub record IsGoing (p : Program) (s : Snapshot) (t : ℕ) (c : Control) (cells mine : List ℤ)
-    (m : Moving) : Type 0 where
+    (m : MovingThread) : Type 0 where
   pub done : ℕ
   pub steps : m.steps ≡ done + 1
   pub of : IsOf p (run_to p s t done)

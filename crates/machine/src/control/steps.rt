@@ -30,7 +30,7 @@ use semantics::{Landing, Turn, access, next_local, run_local};
 // A thread in the midst of a run: where it is, with which status, after how many steps, and the
 // threads that were enabled after each of them but the last.
 #[derive(Clone, Copy, Debug)]
-pub(crate) struct Moving {
+pub(crate) struct MovingThread {
     thread: u8,
     place: usize,
     status: Status,
@@ -38,7 +38,7 @@ pub(crate) struct Moving {
     among: Mask,
 }
 
-// Where a thread goes on that got this status by the step of the instruction here.
+// The place where a thread goes on that got this status by the step of the instruction at `place`.
 fn place_after(status: Status, place: usize) -> usize
     requires { place < 2 ^ 16 }
     ensures { result ≡ place_after status place }
@@ -49,32 +49,32 @@ fn place_after(status: Status, place: usize) -> usize
     }
 }
 
-// Whether a thread that was alone after its step goes on.
-fn goes_on(alone: bool, status: Status) -> bool
+// Whether a run may go on after its first step: the thread is alone then, and still running.
+fn can_go_on(alone: bool, status: Status) -> bool
     ensures alone { alone ≡ false → result ≡ false }
     ensures running { IsTrue result → status ≡ Running }
 {
     alone && status == Status::Running
 }
 
-// Whether a run ends, as others are enabled now than after its first step.
-fn ends(steps: u32, among: Mask, enabled: Mask) -> bool
+// Whether a run is over after `steps` steps: others are `enabled` than after its first, `among`.
+fn is_run_over(steps: u32, among: Mask, enabled: Mask) -> bool
     ensures { IsFalse result → 1 < steps → enabled ≡ among }
 {
     among != enabled && steps > 1
 }
 
-// The cell that has the queue of a condition.
-fn queue(program: &Program, condition: usize) -> usize
+// The number of the cell, among the values, that holds the queue of a condition.
+fn queue_cell(program: &Program, condition: usize) -> usize
     requires { condition < OBJECTS }
     ensures { result ≡ length program.now.variables + condition }
 {
     program.variables() as usize + condition
 }
 
-// What a thread does with a variable. It runs on then.
+// Lets a thread, whose locals are `own`, act on a variable. Answers its status then: it runs on.
 #[inline(always)]
-fn on_variable(
+fn access_variable(
     shared: &mut [i64],
     own: &mut [i64],
     variable: usize,
@@ -92,7 +92,7 @@ fn on_variable(
 }
 
 impl Control {
-    // The first step of a `wait`, whose condition's queue is this cell.
+    // Takes the first step of a `wait`: the thread joins the `queue`. Answers its status then.
     fn begin_wait(&mut self, queue: &mut i64, thread: u8, condition: usize, mutex: usize) -> Status
         requires thread { thread < THREADS }
         requires ready { (p : Program) × (s : Snapshot) × (cells : List ℤ) × (mine : List ℤ)
@@ -106,12 +106,12 @@ impl Control {
         if self.owners[mutex] != thread {
             return Status::Stopped(Stop::NotHeld);
         }
-        self.put_last(queue, thread, condition);
-        self.give_back(mutex);
+        self.enqueue(queue, thread, condition);
+        self.free_mutex(mutex);
         Status::Waiting(condition as u8)
     }
 
-    // The step of an `unlock`.
+    // Takes the step of `unlock`. Answers the thread's status then: stopped if it isn't the owner.
     fn unlock(&mut self, thread: u8, mutex: usize) -> Status
         requires thread { thread < THREADS }
         requires ready { (p : Program) × (s : Snapshot) × (cells : List ℤ) × (mine : List ℤ)
@@ -123,11 +123,11 @@ impl Control {
         if self.owners[mutex] != thread {
             return Status::Stopped(Stop::NotHeld);
         }
-        self.give_back(mutex);
+        self.free_mutex(mutex);
         Status::Running
     }
 
-    // The step of a `release`.
+    // Takes the step of `release`. Answers the thread's status then: stopped at the greatest count.
     fn release_if_room(&mut self, _thread: u8, semaphore: usize) -> Status
         requires ready { (p : Program) × (s : Snapshot) × (cells : List ℤ) × (mine : List ℤ)
             × IsWellFormed p × IsPoised p s _thread (Release semaphore) self.old cells mine }
@@ -142,7 +142,7 @@ impl Control {
         Status::Running
     }
 
-    // A signal wakes the first of the queue, which is this cell, if there is one.
+    // Takes the step of a `signal`, which wakes the first thread in the `queue` of condition `c`.
     fn signal(&mut self, program: &Program, queue: i64, thread: u8, c: usize) -> Status
         requires thread { thread < length program.now.threads }
         requires ready { (s : Snapshot) × (cells : List ℤ) × (mine : List ℤ)
@@ -155,13 +155,13 @@ impl Control {
     {
         program.keeps_limits();
         if self.lengths[c] > 0 {
-            let first = self.take_first(queue, c);
+            let first = self.dequeue(queue, c);
             self.wake(program, first);
         }
         Status::Running
     }
 
-    // A broadcast wakes all of the queue, which is this cell.
+    // Takes the step of a `broadcast`, which wakes all threads in the `queue` of the condition `c`.
     fn broadcast(&mut self, program: &Program, queue: i64, thread: u8, c: usize) -> Status
         requires thread { thread < length program.now.threads }
         requires ready { (s : Snapshot) × (cells : List ℤ) × (mine : List ℤ)
@@ -174,13 +174,13 @@ impl Control {
     {
         program.keeps_limits();
         while self.lengths[c] > 0 {
-            let first = self.take_first(queue, c);
+            let first = self.dequeue(queue, c);
             self.wake(program, first);
         }
         Status::Running
     }
 
-    // The visible action of a running thread, without its local run after it: its status then.
+    // Takes a running thread's visible action, but no local run after it. Answers its status then.
     #[inline(always)]
     fn perform(
         &mut self,
@@ -200,24 +200,24 @@ impl Control {
         program.keeps_limits();
         match instruction {
             Instruction::Load { local, variable } => {
-                on_variable(shared, own, *variable, Loads(*local))
+                access_variable(shared, own, *variable, Loads(*local))
             }
             Instruction::Store { variable, value } => {
-                on_variable(shared, own, *variable, Stores(*value))
+                access_variable(shared, own, *variable, Stores(*value))
             }
             Instruction::Add {
                 local,
                 variable,
                 value,
-            } => on_variable(shared, own, *variable, Adds(*local, *value)),
+            } => access_variable(shared, own, *variable, Adds(*local, *value)),
             Instruction::Cas {
                 local,
                 variable,
                 expected,
                 new,
-            } => on_variable(shared, own, *variable, Swaps(*local, *expected, *new)),
+            } => access_variable(shared, own, *variable, Swaps(*local, *expected, *new)),
             Instruction::Lock(m) => {
-                self.take(thread, *m);
+                self.take_mutex(thread, *m);
                 Status::Running
             }
             Instruction::Unlock(m) => self.unlock(thread, *m),
@@ -227,18 +227,20 @@ impl Control {
             }
             Instruction::Release(k) => self.release_if_room(thread, *k),
             Instruction::Wait { condition, mutex } => {
-                let cell = queue(program, *condition);
+                let cell = queue_cell(program, *condition);
                 self.begin_wait(&mut shared[cell], thread, *condition, *mutex)
             }
-            Instruction::Signal(c) => self.signal(program, shared[queue(program, *c)], thread, *c),
+            Instruction::Signal(c) => {
+                self.signal(program, shared[queue_cell(program, *c)], thread, *c)
+            }
             Instruction::Broadcast(c) => {
-                self.broadcast(program, shared[queue(program, *c)], thread, *c)
+                self.broadcast(program, shared[queue_cell(program, *c)], thread, *c)
             }
             _ => Status::Running,
         }
     }
 
-    // A woken thread takes the mutex of its `wait` again, without its local run after it.
+    // A woken thread takes the mutex of its `wait` again, but no local run after that.
     fn retake(&mut self, thread: u8, instruction: &Instruction)
         requires thread { thread < THREADS }
         requires ready { (p : Program) × IsWellFormed p × IsValid p instruction.now }
@@ -250,11 +252,11 @@ impl Control {
             → IsPerformed p s thread self.new cells mine Running }
     {
         if let Instruction::Wait { mutex, .. } = instruction {
-            self.take(thread, *mutex);
+            self.take_mutex(thread, *mutex);
         }
     }
 
-    // The step of an enabled thread, without its local run after it: its status then.
+    // Takes the step of an enabled thread, but no local run after it. Answers its status then.
     #[inline(always)]
     fn take_step(
         &mut self,
@@ -279,8 +281,8 @@ impl Control {
         self.perform(program, shared, own, thread, instruction)
     }
 
-    // Whether the objects let a thread take the step of this instruction.
-    fn lets(&self, instruction: &Instruction) -> bool
+    // Whether the mutexes and semaphores let a running thread take the step of this instruction.
+    fn can_perform(&self, instruction: &Instruction) -> bool
         requires { (p : Program) × IsValid p instruction.now × IsWellFormed p }
         ensures { (s : Snapshot) → HasObjects self.now s
             → result ≡ can_do s (action_of instruction.now) }
@@ -296,16 +298,16 @@ impl Control {
         }
     }
 
-    // A further step of a run, where the thread is at a visible statement that it may take. False
-    // where the run is over, as others are enabled than after the first step, or after it.
+    // Takes a further step of a run whose thread is at a visible statement it may take. False where
+    // the run is over: others are enabled than after its first step, or the thread runs no more.
     #[inline(always)]
-    fn go_further(
+    fn take_further_step(
         &mut self,
         program: &Program,
         code: &[Instruction],
         shared: &mut [i64],
         own: &mut [i64],
-        moving: &mut Moving,
+        moving: &mut MovingThread,
     ) -> bool
         requires running { moving.old.status ≡ Running }
         requires place { moving.old.place < length code.now }
@@ -323,7 +325,7 @@ impl Control {
     {
         program.keeps_limits();
         let enabled = self.enabled.with(moving.thread, true);
-        if ends(moving.steps, moving.among, enabled) {
+        if is_run_over(moving.steps, moving.among, enabled) {
             return false;
         }
         moving.among = enabled;
@@ -335,15 +337,15 @@ impl Control {
         status == Status::Running
     }
 
-    // One instruction of a run after its first step. False where the run is over.
+    // Runs a local or visible instruction of a run after its first step. False if the run is over.
     #[inline(always)]
-    fn go_on(
+    fn run_instruction(
         &mut self,
         program: &Program,
         code: &[Instruction],
         shared: &mut [i64],
         own: &mut [i64],
-        moving: &mut Moving,
+        moving: &mut MovingThread,
     ) -> bool
         requires running { moving.old.status ≡ Running }
         requires valid { IsValidCode program.now code.now }
@@ -364,17 +366,17 @@ impl Control {
                 true
             }
             Turn::Takes => {
-                self.lets(&code[moving.place])
-                    && self.go_further(program, code, shared, own, moving)
+                self.can_perform(&code[moving.place])
+                    && self.take_further_step(program, code, shared, own, moving)
             }
-            Turn::Visible => self.go_further(program, code, shared, own, moving),
+            Turn::Visible => self.take_further_step(program, code, shared, own, moving),
             Turn::Fails | Turn::Ends => false,
         }
     }
 
-    // After the last step of a run the thread runs on from its place, or gets the status.
+    // Lets the thread of a run land after the last step, by a local run if its status is running.
     #[inline(always)]
-    fn finish(&mut self, code: &[Instruction], own: &mut [i64], moving: Moving)
+    fn finish_run(&mut self, code: &[Instruction], own: &mut [i64], moving: MovingThread)
         requires thread { moving.thread < THREADS }
         requires place { moving.place ≤ length code.now }
         requires few { length code.now < 2 ^ 16 }
@@ -403,8 +405,8 @@ impl Control {
         }
     }
 
-    // A run of an enabled thread, whose locals these are: a step, and where it is alone further
-    // ones, while the enabled threads stay.
+    // Runs an enabled thread, whose locals are `own`: a step, and where it is alone further ones,
+    // while the same threads stay enabled. `shared` are the values of the variables and the queues.
     #[inline(always)]
     fn run(
         &mut self,
@@ -428,18 +430,18 @@ impl Control {
         let code = program.code(thread);
         let place = self.places[thread as usize] as usize;
         let status = self.take_step(program, shared, own, thread, &code[place]);
-        let mut moving = Moving {
+        let mut moving = MovingThread {
             thread,
             place: place_after(status, place),
             status,
             steps: 1,
             among: Mask::empty(),
         };
-        let mut going = goes_on(alone, status);
+        let mut going = can_go_on(alone, status);
         while going {
-            going = self.go_on(program, code, shared, own, &mut moving);
+            going = self.run_instruction(program, code, shared, own, &mut moving);
         }
-        self.finish(code, own, moving);
+        self.finish_run(code, own, moving);
         Run {
             steps: moving.steps,
             among: moving.among,
@@ -447,9 +449,9 @@ impl Control {
         }
     }
 
-    /// A run of an enabled thread over a machine's values. It takes no memory.
+    /// Runs an enabled thread over a machine's values, in the order of `shape`. Takes no memory.
     #[inline(always)]
-    pub(crate) fn run_over(
+    pub(crate) fn run_on_values(
         &mut self,
         values: &mut [i64],
         program: &Program,

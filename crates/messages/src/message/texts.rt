@@ -1,14 +1,16 @@
-//! The lines of spans, notes and diagnostics.
+//! The lines by which spans, notes and diagnostics are printed.
 
 ghost use Rattle.messages.specs.Lines.{span_lines, remark_lines, note_lines, diagnostic_lines};
 ghost use Rattle.messages.specs.Puts.{Puts};
 
 use crate::message::{
-    Diagnostic, Note, Span, left_out, line_of, put_margin, put_marks, put_said, put_source,
+    Diagnostic, Note, Span, first_shown, line_of, put_margin, put_marks, put_message_line,
+    put_source_line,
 };
 use std::alloc::AllocError;
 
-// Adds the source line of a span, below that marks under the bytes of the span, and what is said.
+// Adds the source line of a span, and below it marks under the bytes of the span, with the message
+// `said` after them.
 fn put_span(
     out: &mut Vec<u8>,
     text: &[u8],
@@ -20,15 +22,16 @@ fn put_span(
 {
     let line = line_of(text, span.at.line);
     let column = (span.at.col as usize).saturating_sub(1);
-    let from = left_out(line.len(), column);
+    let from = first_shown(line.len(), column);
     put_margin(out, span.at.line)?;
-    put_source(out, line, from)?;
+    put_source_line(out, line, from)?;
     put_marks(out, column.saturating_sub(from), span.length, mark)?;
-    put_said(out, b" ", said)
+    put_message_line(out, b" ", said)
 }
 
-// Adds a source line with marks and what is said, where there is a place; else what is said alone.
-fn put_remark(
+// Adds the message `said` of a diagnostic or a note: with the source line and marks under the bytes
+// of the span, if there is one, else alone.
+fn put_message(
     out: &mut Vec<u8>,
     text: &[u8],
     span: Option<Span>,
@@ -39,7 +42,7 @@ fn put_remark(
 {
     match span {
         Some(span) => put_span(out, text, span, mark, said),
-        None => put_said(out, b"      = ", said),
+        None => put_message_line(out, b"      = ", said),
     }
 }
 
@@ -48,21 +51,25 @@ fn put_notes(out: &mut Vec<u8>, text: &[u8], notes: &[Note]) -> Result<(), Alloc
     ensures { Puts result out.old out.new (note_lines text.now notes.now) }
 {
     for note in notes {
-        put_remark(out, text, note.span, b'-', &note.text)?;
+        put_message(out, text, note.span, b'-', &note.text)?;
     }
     Ok(())
 }
 
 impl Diagnostic {
-    /// Adds the lines of a diagnostic on a text: the short form, the source line with carets under what
-    /// is meant, and the notes.
+    /// Adds the lines of a diagnostic on a text: the short form, the source line with carets under
+    /// the bytes that are meant, the message, and the notes.
+    ///
+    /// # Errors
+    ///
+    /// `AllocError` where memory runs out.
     pub fn put(&self, out: &mut Vec<u8>, text: &[u8]) -> Result<(), AllocError>
         ensures { Puts result out.old out.new (diagnostic_lines text.now self.now) }
     {
         out.extend_from_slice(b"ctxbound: ")?;
         out.extend_from_slice(self.headline.as_bytes())?;
         out.push(b'\n')?;
-        put_remark(out, text, self.span, b'^', &self.message)?;
+        put_message(out, text, self.span, b'^', &self.message)?;
         put_notes(out, text, &self.notes)
     }
 }

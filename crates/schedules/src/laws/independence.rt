@@ -117,7 +117,7 @@ pub fn reduced_are_the_kept()
         is_kept p s Z w ≡ true → is_complete p s w ≡ true }
 {}
 
-/// Each complete schedule is left, or an earlier one leads to the same state, or one that begins
+/// Each complete schedule is kept, or an earlier one leads to the same state, or one that begins
 /// with a step of a sleeping thread does.
 pub fn sleep_sets_keep()
     ensures { (p : Program) (s : Snapshot) (Z : ℕ → Bool) (w : List ℕ) →

@@ -85,7 +85,7 @@ pub fn none_begins_another()
 // Preemptions, counted as by Musuvathi and Qadeer (PLDI 2007): the switches away from a thread that
 // is still enabled.
 
-/// A schedule without steps has no last thread, and one that ends with a step of a thread has that.
+/// A schedule without steps has no last thread; any other has that of its last step.
 pub fn last_is_of_the_last_step()
     ensures none { last_of [] ≡ None }
     ensures some { (w : List ℕ) (t : ℕ) → last_of (w ++ t ∷ []) ≡ Some t }
@@ -134,7 +134,7 @@ pub fn schedules_under_and_within()
         ↔ ((w : List ℕ) × Contains (schedules_under p x) w × (b < preemptions p w)) }
 {}
 
-/// Under a longer prefix lie those schedules of the shorter one that begin with it, in their order.
+/// Under a longer prefix lie those schedules of a shorter one that begin with the longer, in order.
 pub fn longer_prefixes_keep()
     ensures under { (p : Program) (x y : List ℕ) →
         begins_with x y ≡ true →

@@ -1,6 +1,6 @@
 //! Gates of the tests.
 
-use runner::{Decision, Gate};
+use runner::{Answer, Gate};
 use std::sync::atomic::{AtomicU64, Ordering};
 use std::thread;
 
@@ -33,11 +33,11 @@ impl Gate for PassingGate {
         true
     }
 
-    fn before(&self, _worker: u32, _item: u64) -> Decision {
+    fn before(&self, _worker: u32, _item: u64) -> Answer {
         if self.asked.fetch_add(1, Ordering::SeqCst) < self.passes {
-            Decision::Go
+            Answer::Go
         } else {
-            Decision::Stop
+            Answer::Stop
         }
     }
 }
@@ -55,10 +55,10 @@ impl Gate for StoppingGate {
         true
     }
 
-    fn before(&self, worker: u32, _item: u64) -> Decision {
+    fn before(&self, worker: u32, _item: u64) -> Answer {
         match worker {
-            1 => Decision::Stop,
-            _ => Decision::Go,
+            1 => Answer::Stop,
+            _ => Answer::Go,
         }
     }
 }

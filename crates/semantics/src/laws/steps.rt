@@ -39,7 +39,7 @@ pub fn steps_change_only_what_they_write()
         count_of (step p s t) k ≡ count_of s k }
 {}
 
-/// A step of one thread leaves each other thread where it is, with its locals; it may be woken.
+/// A step of one thread leaves each other thread where that is, with its locals, but may wake it.
 pub fn steps_leave_other_threads()
     ensures { (p : Program) (s : Snapshot) (t u : ℕ) →
         is_enabled p s t ≡ true → u ≢ t → IsLeft (thread_at s u) (thread_at (step p s t) u) }
@@ -85,7 +85,7 @@ pub fn adds_are_atomic()
 {}
 
 /// A `cas` whose variable has the expected value gives it the new one, and puts 1 into its local;
-/// any other puts 0 into its local, and changes no variable.
+/// any other `cas` puts 0 into its local, and changes no variable.
 pub fn swaps_are_atomic()
     ensures hit { (p : Program) (s : Snapshot) (t x r : ℕ) (a b : Value) →
         IsAboutTo p s t (OnVariable x (Cas r a b)) → x < length s.vars →

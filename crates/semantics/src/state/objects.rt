@@ -9,23 +9,23 @@ use crate::queue::Queue;
 use crate::signals::wait_again;
 use crate::state::{Action, State};
 
-/// What an action changes beside its thread, as it was before.
+/// The objects that a step changes beside its thread, as they were before.
 #[derive(Drop)]
 pub enum Objects {
-    /// The value of a variable.
+    /// A variable and its value.
     Variable(usize, i64),
-    /// The owner of a mutex.
+    /// A mutex and its owner.
     Owner(usize, Option<u8>),
-    /// The queue of a condition, and the owner of a mutex.
+    /// A condition and its queue, and a mutex and its owner.
     Wait(usize, Queue, usize, Option<u8>),
-    /// The queue of a condition, whose threads all waited.
+    /// A condition and its queue, whose threads all waited.
     Call(u8, Queue),
-    /// The count of a semaphore.
+    /// A semaphore and its count.
     Count(usize, u16),
 }
 
 impl Objects {
-    /// What this action is about to change in a state.
+    /// The objects that this action is about to change, as they are in the state.
     pub fn before(state: &State, action: Action) -> Objects
         requires { (p : Program) × IsWellFormed p × IsOf p state.now × IsValidAction p action }
         ensures { result ≡ objects_of state.now action }
@@ -39,7 +39,7 @@ impl Objects {
         }
     }
 
-    /// Puts it back as it was.
+    /// Puts the objects of a state back as they were.
     pub fn put_back(&self, state: &mut State)
         requires { HasObjects state.old self.now }
         ensures { state.new ≡ put_back self.now state.old }

@@ -8,7 +8,7 @@ ghost use Rattle.semantics.specs.declared.state.Action.TheVariants.{OnVariable, 
 
 use crate::action::owns;
 use crate::local::{access, resume};
-use crate::signals::call;
+use crate::signals::notify;
 use crate::state::objects::Objects;
 use crate::state::{
     Action, ConditionAction, MutexAction, SemaphoreAction, State, Status, Stop, VariableAction,
@@ -18,7 +18,7 @@ use guest_code::limits::COUNT;
 use guest_code::program::Program;
 
 impl State {
-    /// One step of an enabled thread, and how to take it back. It takes no memory.
+    /// Takes one step of an enabled thread, and answers how to take it back. Nothing is allocated.
     pub fn step(&mut self, program: &Program, thread: u8) -> Undo
         requires of { IsOf program.now self.old }
         requires enabled { IsTrue (is_enabled program.now self.old thread) }
@@ -41,7 +41,7 @@ impl State {
         }
     }
 
-    /// Takes back the step of which this is the record. It takes no memory.
+    /// Takes back the step of which `undo` is the record. Nothing is allocated.
     pub fn undo(&mut self, undo: &Undo)
         requires { IsRecordOf undo.now self.old }
         ensures { self.new ≡ undone undo.now self.old }
@@ -50,7 +50,7 @@ impl State {
         undo.objects.put_back(self);
     }
 
-    // A step that does this.
+    // Takes the step of a thread that does this action.
     fn perform(&mut self, program: &Program, thread: u8, action: Action)
         requires { IsReady program.now self.old thread action }
         ensures { self.new ≡ performed program.now self.old thread action }
@@ -64,7 +64,7 @@ impl State {
         }
     }
 
-    // A step on a variable.
+    // Takes a thread's step on variable x.
     fn step_variable(&mut self, program: &Program, thread: u8, x: usize, action: VariableAction)
         requires { IsReady program.now self.old thread (OnVariable x action) }
         ensures { self.new ≡ performed program.now self.old thread (OnVariable x action) }
@@ -74,7 +74,7 @@ impl State {
         resume(program.code(thread), runner);
     }
 
-    // A step on a mutex alone.
+    // Takes a thread's step on mutex m alone.
     fn step_mutex(&mut self, program: &Program, thread: u8, m: usize, action: MutexAction)
         requires { IsReady program.now self.old thread (OnMutex m action) }
         ensures { self.new ≡ performed program.now self.old thread (OnMutex m action) }
@@ -93,7 +93,7 @@ impl State {
         resume(program.code(thread), runner);
     }
 
-    // The first step of a `wait`.
+    // Takes the first step of a `wait` for condition c with mutex m.
     fn begin_wait(&mut self, program: &Program, thread: u8, c: usize, m: usize)
         requires { IsReady program.now self.old thread (Waits c m) }
         ensures { self.new ≡ performed program.now self.old thread (Waits c m) }
@@ -109,13 +109,13 @@ impl State {
         }
     }
 
-    // A step on a condition alone.
+    // Takes a thread's step on condition c alone.
     fn step_condition(&mut self, program: &Program, thread: u8, c: usize, action: ConditionAction)
         requires { IsReady program.now self.old thread (OnCondition c action) }
         ensures { self.new ≡ performed program.now self.old thread (OnCondition c action) }
     {
         program.keeps_limits();
-        call(
+        notify(
             &mut self.queues[c],
             self.threads.as_mut_slice(),
             c as u8,
@@ -125,7 +125,7 @@ impl State {
         resume(program.code(thread), runner);
     }
 
-    // A step on a semaphore.
+    // Takes a thread's step on semaphore k.
     fn step_semaphore(&mut self, program: &Program, thread: u8, k: usize, action: SemaphoreAction)
         requires { IsReady program.now self.old thread (OnSemaphore k action) }
         ensures { self.new ≡ performed program.now self.old thread (OnSemaphore k action) }

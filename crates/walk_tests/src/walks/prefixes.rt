@@ -153,7 +153,7 @@ const READERS: &str = "var x; thread A { load r x; } thread B { load r x; }";
 /// Whether an item of `READERS` is the one of its prefix after which no thread sleeps.
 fn is_awake(alloc: Global, item: &Item) -> Result<bool, Fail> {
     let awake = Item::at(alloc, program_of(alloc, READERS)?, item.prefix())?;
-    Ok(item.is_same(&awake))
+    Ok(item.equals(&awake))
 }
 
 /// How many items the first schedule of `READERS` leaves where sleep sets prune, and whether one of

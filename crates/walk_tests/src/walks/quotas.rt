@@ -22,12 +22,12 @@ const WITHIN_TWO: &str = "23 0 4 true Some([1, 1, 1, 1, 0, 1, 2, 2, 0]) Done [1]
 /// Joins what a walk found into the whole, and adds what it leaves to the open items.
 fn take_over(walked: Walked, whole: &mut Summary, open: &mut Vec<Item>) -> Result<(), Fail> {
     let (_, mut found) = walked.into_parts();
-    whole.join_in_by(&mut EndHints::new(), &mut found.part)?;
+    whole.join_in(&mut EndHints::new(), &mut found.part)?;
     open.append(&mut found.rest)?;
     Ok(())
 }
 
-/// What walks find in all of a text's program, each cut at a quota, of the root and of all items left.
+/// What walks find in all of a text's program, each cut at a quota, of the root and all items left.
 fn found_in_parts(alloc: Global, text: &str, mode: Mode, quota: u32) -> Result<String, Fail>
     requires { 1 ≤ quota }
 {

@@ -9,17 +9,17 @@ use Rattle.causes.proofs.Places.{first_event, rest_marked}
 use Rattle.causes.proofs.Valid.{uses_few}
 use Rattle.causes.proofs.causes.marks_of.Goals as goal
 
-pub move_before-requires-clause-used : goal.move_before-requires-clause-used
-move_before-requires-clause-used c =
+pub take_event-requires-clause-used : goal.take_event-requires-clause-used
+take_event-requires-clause-used c =
     let p = c.args.program.now in
     let es = c.args.events.now in
     let k = c.events.at - 1 in
     let l : k < length es = omega arith in
     let on : c.events.at ≡ k + 1 = omega arith in
     let v = c.requires k first_event l in
-    used_here p es k first_event c.events.wanted c.keeps_limits.ensures l v
-    (subst (λ n. IsWanted (take n es) (rest_marked p es n) c.events.wanted) on
-    c.events.invariant.wanted) _ refl (uses_few p _ c.keeps_limits.ensures v.statement)
+    used_here p es k first_event c.events.backward_slice c.keeps_limits.ensures l v
+    (subst (λ n. IsWanted (take n es) (rest_marked p es n) c.events.backward_slice) on
+    c.events.invariant.backward_slice) _ refl (uses_few p _ c.keeps_limits.ensures v.statement)
 
 pub events-preserved : goal.events-preserved
 events-preserved c =
@@ -29,14 +29,15 @@ events-preserved c =
     let l : k < length es = omega arith in
     let on : c.events.at ≡ k + 1 = omega arith in
     let v = c.requires k first_event l in
-    let w = subst (λ n. IsWanted (take n es) (rest_marked p es n) c.events.wanted) on
-    c.events.invariant.wanted in
+    let w = subst (λ n. IsWanted (take n es) (rest_marked p es n) c.events.backward_slice) on
+    c.events.invariant.backward_slice in
     record {
       inside = omega arith;
-      wanted = wanted_back p es k first_event c.events.wanted c.keeps_limits.ensures l v w
-          c.needs-needed.result c.move_before.new.self c.needs-needed.ensures
-          c.in_ok-move_before.ensures;
-      marks = marks_back p es k first_event c.events.wanted c.keeps_limits.ensures l v w
+      backward_slice = wanted_back p es k first_event c.events.backward_slice
+          c.keeps_limits.ensures l v w
+          c.needs-needed.result c.take_event.new.self c.needs-needed.ensures
+          c.in_ok-take_event.ensures;
+      marks = marks_back p es k first_event c.events.backward_slice c.keeps_limits.ensures l v w
           c.needs-needed.result c.events.marks.items c.needs-needed.ensures
           c.events.invariant.all
           (subst (λ n. drop n c.events.marks.items ≡ marks_in (rest_marked p es n)) on

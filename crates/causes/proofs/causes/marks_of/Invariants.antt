@@ -7,7 +7,8 @@ use Rattle.causes.proofs.causes.marks_of.Given as goal
 abbrev pub invariant-events : goal.invariant-events
 invariant-events l = record {
   inside : l.at ≤ length l.events;
-  wanted : IsWanted (take l.at l.events) (rest_marked l.program l.events l.at) l.wanted;
+  backward_slice : IsWanted (take l.at l.events) (rest_marked l.program l.events l.at)
+      l.backward_slice;
   marks : drop l.at l.marks.items ≡ marks_in (rest_marked l.program l.events l.at);
   all : length l.marks.items ≡ length l.events;
 }

@@ -6,12 +6,12 @@ use Rattle.causes.proofs.events.put_blocked.Goals as goal
 pub loop-thread-preserved : goal.loop-thread-preserved
 loop-thread-preserved c = λ left e.
     let p = c.args.program.now in
-    let rest = blocked_from p c.args.holders.now c.args.standings.now
+    let rest = blocked_from p c.args.holders.now c.args.thread_states.now
     (c.loop-thread.thread + 1) left in
-    ap (λ es. es ++ rest) (c.in_ok-put_some.ensures
+    ap (λ es. es ++ rest) (c.in_ok-push_if_some.ensures
     ∙ ap (λ o. c.loop-thread.events.items ++ listed o) c.blocked_at.ensures)
     ∙ (append_assoc c.loop-thread.events.items (listed (blocked_at p c.args.holders.now
-    c.args.standings.now c.loop-thread.thread)) rest
+    c.args.thread_states.now c.loop-thread.thread)) rest
     ∙ c.loop-thread.invariant (suc left) (omega (arith, e)))
 
 pub returns : goal.returns

@@ -5,7 +5,7 @@ use Rattle.guest_code.specs.declared.program.Instruction.{Instruction}
 use Rattle.semantics.specs.Machine.{Snapshot, thread_at}
 use Rattle.semantics.specs.Ends.{stop_of}
 use Rattle.explain.specs.declared.explanation.Start.{Start}
-use Rattle.explain.specs.declared.settings.Setting.{Setting}
+use Rattle.explain.specs.declared.assignments.Assignment.{Assignment}
 use Rattle.explain.specs.Explains.{Begins}
 use Rattle.explain.specs.Settings.{settings_in}
 use Rattle.explain.proofs.Pushed.{pushed_at, one_longer}
@@ -19,14 +19,14 @@ loop-t-preserved c =
     let here = c.in_ok-state.ensures.value in
     let locals = replicate 16 (pos 0) in
     let new : Start = record {
-      settings = c.put_settings.new.settings;
+      assignments = c.put_assignments.new.assignments;
       next = c.pc.result;
       stop = c.stop.result;
     } in
     let begins : Begins p t new = record {
-      settings = c.in_ok-put_settings.ensures
-          ∙ (ap (λ (before : List Setting). before ++ settings_in c.code.result.now 0 0 locals)
-          c.new-settings.ensures.items
+      assignments = c.in_ok-put_assignments.ensures
+          ∙ (ap (λ (before : List Assignment). before ++ settings_in c.code.result.now 0 0 locals)
+          c.new-assignments.ensures.items
           ∙ ap (λ (code : List Instruction). settings_in code 0 0 locals) c.code.ensures.code);
       next = c.pc.ensures ∙ ap (λ (s : Snapshot). (thread_at s t).pc) here;
       stop = c.stop.ensures ∙ ap stop_of

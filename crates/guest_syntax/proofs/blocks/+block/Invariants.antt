@@ -18,8 +18,8 @@ decreases-repetition l = 5 * l.room + 1
 abbrev pub decreases-statement : goal.decreases-statement
 decreases-statement l = 5 * l.room + 2
 
-abbrev pub decreases-turn : goal.decreases-turn
-decreases-turn l = 5 * l.room + 3
+abbrev pub decreases-next_statement : goal.decreases-next_statement
+decreases-next_statement l = 5 * l.room + 3
 
 abbrev pub decreases-statements : goal.decreases-statements
 decreases-statements l = 5 * l.room + 4

@@ -23,18 +23,18 @@ loop-preserved c =
     c.step_back.ensures.done in
     record {
       goes = λ w. goes_on w.ways ways _ _ c.loop.counter c.loop.at c.loop.last.items (g w)
-          (omega (arith, w.more, c.loop-test.true)) _ _ c.top-top.ensures.start last
+          (omega (arith, w.more, c.loop-test.true)) _ _ c.top_way-top.ensures.start last
           (omega (
             arith,
-            c.top-top.ensures.ordered,
-            c.top-top.ensures.within,
+            c.top_way-top.ensures.ordered,
+            c.top_way-top.ensures.within,
             length-take c.loop.at ways,
           ));
       room = omega (arith, c.loop.invariant.room, c.step_back.ensures.room);
     }
 
-pub slice_bounds-top-end : goal.slice_bounds-top-end
-slice_bounds-top-end c = omega (
+pub slice_bounds-top_way-end : goal.slice_bounds-top_way-end
+slice_bounds-top_way-end c = omega (
   arith,
   length-take c.loop.at c.args.ways.now,
   (c.loop.invariant.goes c.requires).within,

@@ -48,7 +48,7 @@ sleeps_is c = here ∙ (ap (λ b. b && both_apart) (tried_is c) ∙
 
     here : c.if-tried.sleeps ≡ (c.if-is_tried.tried && both_apart)
     here = elim c.if-tried.branch [
-      | then-tried w ↦ w.sleeps-is ∙ (w.next_apart-sleeps.ensures ∙
+      | then-tried w ↦ w.sleeps-is ∙ (w.next_steps_apart-sleeps.ensures ∙
           ((λ i. apart (c.next-step.ensures.value i) (w.next.ensures.value i)) ∙
           ap (λ b. b && both_apart) (sym w.if-tried.true)))
       | else-tried w ↦ w.sleeps-is ∙ (w.if-tried.false ∙ ap (λ b. b && both_apart)

@@ -23,13 +23,14 @@ pub returns-clause-answer : goal.returns-clause-answer
 returns-clause-answer g c =
     let p = arc_value c.args.program.now in
     let l = c.args.limits in
-    let stop : c.stop_of-stop.result ≡ stop_of c.args.known l.bound = c.stop_of-stop.ensures in
-    let over : c.loop-bound.bound ≡ c.stop_of-stop.result = search rules in
+    let stop : c.bound_count-stop.result ≡ stop_of c.args.known l.bound =
+    c.bound_count-stop.ensures in
+    let over : c.loop-bound.bound ≡ c.bound_count-stop.result = search rules in
     let none : NoBadBelow p (stop_of c.args.known l.bound) =
     subst (NoBadBelow p) (over ∙ stop) c.loop-bound.invariant.none in
     let told : c.answer_of-2.result ≡ answer_of None c.args.known (stop_of c.args.known l.bound) =
     c.answer_of-2.ensures
-    ∙ (ap (λ k. answer_of None k c.stop_of-stop.result) c.loop-bound.invariant.known
+    ∙ (ap (λ k. answer_of None k c.bound_count-stop.result) c.loop-bound.invariant.known
     ∙ ap (λ k. answer_of None c.args.known k) stop) in
     subst (AnswerMeans p l) (sym told)
     (gone_through p l c.args.known c.requires.known none)

@@ -89,16 +89,16 @@ invariant_of-self-in_err-append_prefixes c =
       subst (IsSwept c.self.inside.swept) (sym same) c.self.invariant.1,
       λ q bad. (
         c.reserve.ensures.packed ∙ c.unpack_from.ensures.none (c.self.invariant.2 q bad).0,
-        c.append_prefixes.ensures.packed (packs_none c.is_packed-packs.result c.self.inside.quick
+        c.append_prefixes.ensures.packed (packs_none c.may_pack-packs.result c.self.inside.quick
             c.self.inside.finished.first_bad c.args.found.now.part.first_bad
-            c.is_packed-packs.ensures q bad)
+            c.may_pack-packs.ensures q bad)
             ∙ c.unpack_from-2.ensures.none (c.self.invariant.2 q bad).1,
       ),
     )
 
 -- and where the sum was refused
 not_joined : (c : After-drop-none-inside-in-Err-2) → record (book_of c.self.inside) {
-  finished = c.join_in_by.new.self;
+  finished = c.join_in.new.self;
   open_items = all_of c.self.inside.of.program c.reserve.new.self;
   deferred = all_of c.self.inside.of.program c.truncate.new.self;
 } ≡ book_of c.self.inside
@@ -112,7 +112,7 @@ not_joined c =
     c.unpack_from-2.ensures.same in
     let more = more_of c.append_prefixes.new.self c.unpack_from-2.new.self
     c.listed_of-listed.result.now own c.in_ok-append_prefixes.ensures.all in
-    same_book b c.join_in_by.new.self (all_of p c.reserve.new.self) (all_of p c.truncate.new.self)
+    same_book b c.join_in.new.self (all_of p c.reserve.new.self) (all_of p c.truncate.new.self)
     c.in-Err.ensures.joined
     (still_there p c.unpack_from.new.self c.reserve.new.self b.open_items opened
     c.reserve.ensures.packed c.reserve.ensures.unpacked)
@@ -130,9 +130,9 @@ invariant_of-self-in-Err c = (
       λ e. k (ap (λ (z : SummaryView). z.first_bad) c.in-Err.ensures.joined ∙ e) in (
         c.reserve.ensures.packed ∙ c.unpack_from.ensures.none (c.self.invariant.2 q bad).0,
         c.truncate.ensures.none
-            (c.append_prefixes.ensures.packed (packs_none c.is_packed-packs.result
+            (c.append_prefixes.ensures.packed (packs_none c.may_pack-packs.result
             c.self.inside.quick c.self.inside.finished.first_bad
-            c.args.found.now.part.first_bad c.is_packed-packs.ensures q bad)
+            c.args.found.now.part.first_bad c.may_pack-packs.ensures q bad)
             ∙ c.unpack_from-2.ensures.none (c.self.invariant.2 q bad).1),
       ),
 )
@@ -179,7 +179,7 @@ remove_each-requires-clause-within c =
 
 -- the book where the walks are settled
 settled : (c : After-drop-none-inside-3) → record (book_of c.self.inside) {
-  finished = c.join_in_by.new.self;
+  finished = c.join_in.new.self;
   open_items = all_of c.self.inside.of.program c.remove_each.new.self;
   deferred = all_of c.self.inside.of.program c.append_prefixes.new.self;
 } ≡ taken_in (book_of c.self.inside)
@@ -220,9 +220,9 @@ invariant_of-self-2 c =
       subst (IsSwept (c.self.inside.swept && c.is_quiet-quiet.result)) (sym (settled c))
           (taken_swept c.self.inside.swept c.is_quiet-quiet.result b c.args.places.now found
           c.self.invariant.1 c.is_quiet-quiet.ensures),
-      unpacked_after c.is_packed-packs.result c.self.inside.quick c.self.inside.finished.first_bad
-          found.part.first_bad c.join_in_by.new.self.first_bad c.remove_each.new.self.packed
-          c.append_prefixes.new.self.packed c.is_packed-packs.ensures
+      unpacked_after c.may_pack-packs.result c.self.inside.quick c.self.inside.finished.first_bad
+          found.part.first_bad c.join_in.new.self.first_bad c.remove_each.new.self.packed
+          c.append_prefixes.new.self.packed c.may_pack-packs.ensures
           (λ n. (
             c.remove_each.ensures.packed ∙ (c.append.ensures.packed ∙ (c.reserve.ensures.packed
                 ∙ none_there c.unpack_from.new.self.packed c.first_unpacked.result

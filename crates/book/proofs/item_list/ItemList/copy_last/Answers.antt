@@ -28,7 +28,7 @@ returns-clause-items c =
     ≡ drop (length i.unpacked.items - most) i.unpacked.items =
     ap (λ k. drop k i.unpacked.items) e in
     let same =
-    (λ k. c.in_ok-last_items.ensures.items k ++ d k)
+    (λ k. c.in_ok-write_last_items.ensures.items k ++ d k)
     ∙ (last_of_both (items_at p i.packed) i.unpacked.items (length i.packed) most c.min-count.result
     (sym n) count
     ∙ ap (λ l. drop (length (all_of p l) - most) (all_of p l)) c.self.view_is) in
@@ -40,4 +40,4 @@ returns-clause-program c =
     let p = arc_value c.args.program.now in
     c.push_copies.ensures.program p
     (subst (λ (l : ListView). AreOf p l.unpacked) (sym c.self.view_is) c.requires.unpacked)
-    c.last_items.ensures.program
+    c.write_last_items.ensures.program

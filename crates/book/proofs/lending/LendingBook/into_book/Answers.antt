@@ -83,9 +83,9 @@ invariant_of-result c =
             c.shared_program-program.ensures c.unpack_from-2.ensures.same) k;
       }) (keeps_permuted b (all_of p free) refl moved c.self.invariant),
       tt,
-      λ q bad. let packs : c.is_packed-packs.result ≡ false =
-          packs_none c.is_packed-packs.result i.quick i.finished.first_bad i.finished.first_bad
-          c.is_packed-packs.ensures q bad in (
+      λ q bad. let packs : c.may_pack-packs.result ≡ false =
+          packs_none c.may_pack-packs.result i.quick i.finished.first_bad i.finished.first_bad
+          c.may_pack-packs.ensures q bad in (
             none_there c.unpack_from.new.self.packed c.first_unpacked-first.result
                 c.in_ok-unpack_from.ensures.unpacked (c.first_unpacked-first.ensures.none packs),
             none_there c.unpack_from-2.new.self.packed c.first_unpacked-first-2.result

@@ -104,7 +104,7 @@ append_prefixes-requires c =
 
 -- the book is as before where the sum was refused
 not_joined : (c : After-drop-none-inside-in-Err-2) → lending_view c.self.inside.of
-    c.self.inside.mode c.join_in_by.new.self c.reserve.new.self
+    c.self.inside.mode c.join_in.new.self c.reserve.new.self
     (set c.self.inside.lent.items c.args.worker c.in-Some.lent.now) c.truncate.new.self
     c.self.inside.lists c.self.inside.quick ≡ lending_of c.self.inside
 not_joined c =
@@ -141,7 +141,7 @@ returns-in-Err-clause-same c = λ e. not_joined c ∙ c.self.view_is
 
 -- the book where the walks are settled
 settled : (c : After-drop-none-inside-3) → lending_view c.self.inside.of
-    c.self.inside.mode c.join_in_by.new.self c.append.new.self
+    c.self.inside.mode c.join_in.new.self c.append.new.self
     (set c.self.inside.lent.items c.args.worker c.clear.new.self) c.append_prefixes.new.self
     c.self.inside.lists c.self.inside.quick
     ≡ came_back c.args.self.now c.args.worker c.args.found.now
@@ -164,7 +164,7 @@ settled c =
     ∙ ap (λ is. b.deferred ++ is)
     (ap (items_at p) c.listed_of-listed.ensures ∙ listed_items p b.lists found.deferred) in
     (λ k. record b {
-      finished = c.in_default-join_in_by.ensures.joined k;
+      finished = c.in_default-join_in.ensures.joined k;
       free = free k;
       lent = mine k;
       deferred = put_off k;

@@ -25,7 +25,7 @@ returns-in_default-clause-locals c =
     (sym c.instruction_at.ensures ∙ c.in_default.is)))
 
 pub returns-then-step-clause-events : goal.returns-then-step-clause-events
-returns-then-step-clause-events c = c.in_ok-put_visible.ensures.events
+returns-then-step-clause-events c = c.in_ok-put_visible_event.ensures.events
     ∙ (ap (λ e. c.args.self.now.events.items ++ e ∷ []) c.visible_event.ensures
     ∙ sym (ap (λ es. c.args.self.now.events.items ++ es) (step_alone c.args.code.now c.args.at
     c.args.step.now (row c.args.self.now.locals c.args.step.now.line.thread)
@@ -33,7 +33,7 @@ returns-then-step-clause-events c = c.in_ok-put_visible.ensures.events
     (eq-eqb _ _ c.if-step.true))))
 
 pub returns-then-step-clause-locals : goal.returns-then-step-clause-locals
-returns-then-step-clause-locals c = c.in_ok-put_visible.ensures.locals
+returns-then-step-clause-locals c = c.in_ok-put_visible_event.ensures.locals
     ∙ (ap (λ e. slice_set c.args.self.now.locals e.thread (locals_with
     (row c.args.self.now.locals e.thread) (local_set e.statement) (value_by e.deed)))
     c.visible_event.ensures
@@ -44,28 +44,28 @@ returns-then-step-clause-locals c = c.in_ok-put_visible.ensures.locals
     (eq-eqb _ _ c.if-step.true))))
 
 pub returns-clause-events : goal.returns-clause-events
-returns-clause-events c = on_ok_weaker c.put_run.result
+returns-clause-events c = on_ok_weaker c.put_local_run.result
     (λ e. on_events c.args.code.now c.args.at c.args.step.now c.in-Some.statement
-    c.args.self.now.locals c.put_visible.new.self.locals
+    c.args.self.now.locals c.put_visible_event.new.self.locals
     (let long : length c.args.self.now.locals ≡ THREADS = search rules in omega (arith, long))
     (sym c.instruction_at.ensures ∙ c.in-Some.is) (ne_eqb _ _ c.if-step.false)
-    (c.in_ok-put_visible.ensures.locals ∙ ap (λ e. slice_set c.args.self.now.locals e.thread
+    (c.in_ok-put_visible_event.ensures.locals ∙ ap (λ e. slice_set c.args.self.now.locals e.thread
     (locals_with (row c.args.self.now.locals e.thread) (local_set e.statement)
     (value_by e.deed))) c.visible_event.ensures)
-    c.args.self.now.events.items c.put_visible.new.self.events.items
-    c.put_run.new.self.events.items
-    (c.in_ok-put_visible.ensures.events
+    c.args.self.now.events.items c.put_visible_event.new.self.events.items
+    c.put_local_run.new.self.events.items
+    (c.in_ok-put_visible_event.ensures.events
     ∙ ap (λ e. c.args.self.now.events.items ++ e ∷ []) c.visible_event.ensures) e)
-    c.put_run.ensures.events
+    c.put_local_run.ensures.events
 
 pub returns-clause-locals : goal.returns-clause-locals
-returns-clause-locals c = on_ok_weaker c.put_run.result
+returns-clause-locals c = on_ok_weaker c.put_local_run.result
     (λ e. on_locals c.args.code.now c.args.at c.args.step.now c.in-Some.statement
-    c.args.self.now.locals c.put_visible.new.self.locals
+    c.args.self.now.locals c.put_visible_event.new.self.locals
     (let long : length c.args.self.now.locals ≡ THREADS = search rules in omega (arith, long))
     (sym c.instruction_at.ensures ∙ c.in-Some.is) (ne_eqb _ _ c.if-step.false)
-    (c.in_ok-put_visible.ensures.locals ∙ ap (λ e. slice_set c.args.self.now.locals e.thread
+    (c.in_ok-put_visible_event.ensures.locals ∙ ap (λ e. slice_set c.args.self.now.locals e.thread
     (locals_with (row c.args.self.now.locals e.thread) (local_set e.statement)
     (value_by e.deed))) c.visible_event.ensures)
-    c.put_run.new.self.locals e)
-    c.put_run.ensures.locals
+    c.put_local_run.new.self.locals e)
+    c.put_local_run.ensures.locals

@@ -12,9 +12,9 @@ returns c =
       schedule = c.in_ok-to_vec.ensures.items_if_clones_equal (λ x y e. e);
       steps = run.steps;
       stops = run.stops;
-      opening = c.in_ok-opening.ensures;
-      threads = subst (λ s. TellsThreads p s c.in_ok-standings.standings.items) here
-          c.in_ok-standings.ensures;
+      opening = c.in_ok-starts.ensures;
+      threads = subst (λ s. TellsThreads p s c.in_ok-thread_states.thread_states.items) here
+          c.in_ok-thread_states.ensures;
       holders = run.holders;
       preemptions = c.preemptions-preemptions.ensures ∙ run.reached.preemptions;
       kind = c.kind-kind.ensures ∙ ap (kind_of p) here;

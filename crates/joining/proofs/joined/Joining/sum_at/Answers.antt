@@ -7,8 +7,8 @@ use Rattle.joining.specs.Parts.{mode_at, Tells, prefixes_for}
 use Rattle.joining.proofs.Sums.{sums_more, first_more}
 use Rattle.joining.proofs.joined.Joining.sum_at.Goals as goal
 
-pub part_of-requires-clause-listed : goal.part_of-requires-clause-listed
-part_of-requires-clause-listed c =
+pub part_for-requires-clause-listed : goal.part_for-requires-clause-listed
+part_for-requires-clause-listed c =
     subst (λ (i : ItemView). Contains
     (prefixes_for c.args.self.now.search c.args.self.now.parts.now.parts.now) i.prefix)
     (sym c.item-item.is)

@@ -33,26 +33,26 @@ returns c = λ p s cells mine poised is.
     let inside : n < length s.queues = omega (arith, poised.fine.0, poised.of.queues) in
     let room : n < length c.args.self.now.lengths =
     omega (arith, c.requires.ready.5.fine.0, c.requires.ready.4.conditions) in
-    waits_on p s c.args.thread _ c.args.self.now c.give_back.new.self cells mine
-    (set cells (length s.vars + n) c.put_last.new.queue) n
+    waits_on p s c.args.thread _ c.args.self.now c.free_mutex.new.self cells mine
+    (set cells (length s.vars + n) c.enqueue.new.queue) n
     c.args.mutex poised refl
     (owns_number c.args.thread _ _ c.requires.thread
     (poised.control.objects.owners_are c.args.mutex)
     ∙ owner_is c.args.self.now.owners c.args.mutex c.args.thread few c.if-self-mutex.false)
-    (c.give_back.ensures.frees p _ c.args.thread
-    (c.put_last.ensures.rest p s c.args.thread
+    (c.free_mutex.ensures.frees p _ c.args.thread
+    (c.enqueue.ensures.rest p s c.args.thread
     (leaves p s c.args.thread _ c.args.self.now cells mine _ poised refl (λ n. refl) (λ k. refl))
     inside)
     (omega (arith, poised.fine.1, poised.of.owners)))
-    (subst (λ ls. AreShared ls (set cells (length s.vars + n) c.put_last.new.queue) s.vars
+    (subst (λ ls. AreShared ls (set cells (length s.vars + n) c.enqueue.new.queue) s.vars
     (set s.queues n (queue_of s n ++ c.args.thread ∷ [])))
-    (sym (c.give_back.ensures.lengths ∙ c.put_last.ensures.lengths))
-    (recelled c.args.self.now.lengths cells s.vars s.queues n (L + 1) c.put_last.new.queue
+    (sym (c.free_mutex.ensures.lengths ∙ c.enqueue.ensures.lengths))
+    (recelled c.args.self.now.lengths cells s.vars s.queues n (L + 1) c.enqueue.new.queue
     (queue_of s n ++ c.args.thread ∷ []) poised.shared inside room
-    (c.put_last.ensures.queue ∙ ap (λ q. q ++ c.args.thread ∷ [])
+    (c.enqueue.ensures.queue ∙ ap (λ q. q ++ c.args.thread ∷ [])
     (ap (queued L) is ∙ poised.shared.are_queues n inside))))
 
-pub put_last-requires-clause-room : goal.put_last-requires-clause-room
-put_last-requires-clause-room c = room_for c.requires.ready.0 c.requires.ready.1 c.args.thread _
+pub enqueue-requires-clause-room : goal.enqueue-requires-clause-room
+enqueue-requires-clause-room c = room_for c.requires.ready.0 c.requires.ready.1 c.args.thread _
     c.args.self.now c.requires.ready.2 c.requires.ready.3 c.args.condition c.args.mutex
     c.requires.ready.5 refl

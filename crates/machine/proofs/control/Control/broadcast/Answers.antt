@@ -29,10 +29,10 @@ wake-requires c =
     let same = to_z-of_z w64 c.args.queue (search rules) ∙ c.requires.ready.4 in
     let h = c.loop-self.invariant.calling s cells c.requires.ready.2 poised same in
     let first = first_queued c.loop-self.self.lengths cells s.vars (set s.queues c.args.c h.rest)
-    c.args.c _ c.take_first-first.result h.shared (omega (arith, inside, many h.rest))
-    same c.take_first-first.ensures.first in
+    c.args.c _ c.dequeue-first.result h.shared (omega (arith, inside, many h.rest))
+    same c.dequeue-first.ensures.first in
     let l = called_below p s t c.args.c c.loop-self.self cells h inside poised.status
-    c.take_first-first.result first in
+    c.dequeue-first.result first in
     record { thread = omega (arith, l, h.many, poised.of.threads) }
 
 -- a queue is shorter by one after a call
@@ -40,7 +40,7 @@ fewer : (c : goal.After-wake) → get_or c.wake.new.self.lengths c.args.c 0
     ≡ get_or c.loop-self.self.lengths c.args.c 0 - 1
 fewer c = let room : c.args.c < length c.loop-self.self.lengths =
     omega (arith, c.requires.ready.3.fine, c.keeps_limits.ensures.conditions) in
-    ap (λ ls. get_or ls c.args.c 0) (c.wake.ensures.lengths ∙ c.take_first-first.ensures.lengths)
+    ap (λ ls. get_or ls c.args.c 0) (c.wake.ensures.lengths ∙ c.dequeue-first.ensures.lengths)
     ∙ get_or-set_same c.loop-self.self.lengths c.args.c _ 0 room
 
 pub loop-self-smaller : goal.loop-self-smaller
@@ -56,24 +56,24 @@ loop-self-preserved c = record {
       let inside : n < length s.queues = omega (arith, poised.fine, poised.of.queues) in
       let h = c.loop-self.invariant.calling s cells mine poised is in
       let z = calling_state p s t n c.loop-self.self cells h inside poised.status in
-      let f = c.take_first-first.result in
+      let f = c.dequeue-first.result in
       let qs = set s.queues n h.rest in
       let there : n < length qs = omega (arith, inside, length-set s.queues n h.rest) in
       let room : n < length c.loop-self.self.lengths =
       omega (arith, c.requires.ready.3.fine, c.keeps_limits.ensures.conditions) in
       let first = first_queued c.loop-self.self.lengths cells s.vars qs n _ f h.shared
-      there is c.take_first-first.ensures.first in
+      there is c.dequeue-first.ensures.first in
       calling_next p s t n c.loop-self.self cells h inside poised.status f first
       c.wake.new.self
       (c.wake.ensures.shows _ t n
-      (c.take_first-first.ensures.rest p z t h.control there)
+      (c.dequeue-first.ensures.rest p z t h.control there)
       (called_apart p s t n c.loop-self.self cells h inside poised.status f first)
       (called_waits p s t n c.loop-self.self cells h inside poised.status f first)
       (called_below p s t n c.loop-self.self cells h inside poised.status f first))
       (subst (λ ls. AreShared ls cells s.vars (set qs n (drop 1 (get_or qs n []))))
-      (sym (c.wake.ensures.lengths ∙ c.take_first-first.ensures.lengths))
+      (sym (c.wake.ensures.lengths ∙ c.dequeue-first.ensures.lengths))
       (unqueued c.loop-self.self.lengths cells s.vars qs n _ f h.shared there room is
-      c.take_first-first.ensures.first));
+      c.dequeue-first.ensures.first));
 }
 
 pub returns : goal.returns

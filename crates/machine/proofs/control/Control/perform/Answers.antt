@@ -10,10 +10,10 @@ pub returns-in-Lock : goal.returns-in-Lock
 returns-in-Lock c = λ s poised.
     let p = c.args.program.now in
     let is = ap action_of c.in-Lock.is in
-    locks p s c.args.thread c.args.instruction.now c.args.self.now c.take.new.self
+    locks p s c.args.thread c.args.instruction.now c.args.self.now c.take_mutex.new.self
     c.args.shared.now c.args.own.now c.in-Lock.m poised is
-    c.take.ensures.lengths
-    (c.take.ensures.takes p s Locks
+    c.take_mutex.ensures.lengths
+    (c.take_mutex.ensures.takes p s Locks
     (subst (IsLeaving p c.args.self.now s c.args.thread) is poised.control)
     (let v = subst (IsValid c.args.program.now) c.in-Lock.is poised.fine in
     omega (arith, v, poised.of.owners)) tt)

@@ -10,8 +10,8 @@ pub returns-in-Wait : goal.returns-in-Wait
 returns-in-Wait c = λ p s cells mine shows shared own of fine next on.
     let takes = next ∙ ap retake_of c.in-Wait.is in
     let v = subst (IsValid p) c.in-Wait.is fine in
-    retakes p s c.args.thread c.args.self.now c.take.new.self cells mine c.in-Wait.mutex shared own
-    takes c.take.ensures.lengths
-    (c.take.ensures.takes p s Retakes
+    retakes p s c.args.thread c.args.self.now c.take_mutex.new.self cells mine c.in-Wait.mutex shared
+    own takes c.take_mutex.ensures.lengths
+    (c.take_mutex.ensures.takes p s Retakes
     (leaving p s c.args.thread c.args.self.now _ shows on takes)
     (omega (arith, v.1, of.owners)) tt)

@@ -11,8 +11,8 @@ use Rattle.machine.proofs.control.Control.run.Goals as goal
 pub loop-going-init : goal.loop-going-init
 loop-going-init c = record {
   thread = refl;
-  running = c.goes_on-going.ensures.running;
-  one = λ e. (c.goes_on-going.ensures.alone e, refl);
+  running = c.can_go_on-going.ensures.running;
+  one = λ e. (c.can_go_on-going.ensures.alone e, refl);
   going = λ s ready.
       let p = c.args.program.now in
       let t = c.args.thread in
@@ -25,16 +25,16 @@ loop-going-init c = record {
 
 pub loop-going-preserved : goal.loop-going-preserved
 loop-going-preserved c = record {
-  thread = c.go_on-going.ensures.thread ∙ c.loop-going.invariant.thread;
-  running = c.go_on-going.ensures.running;
+  thread = c.run_instruction-going.ensures.thread ∙ c.loop-going.invariant.thread;
+  running = c.run_instruction-going.ensures.running;
   one = λ e. (let off = (c.loop-going.invariant.one e).0 in
       let no : true ≡ false = sym c.loop-going-test.true ∙ off in absurd (cc));
   going = λ s ready.
       let p = c.args.program.now in
       let known = c.loop-going.invariant in
-      subst (λ t. IsGoing p s t c.go_on-going.new.self c.go_on-going.new.shared
-      c.go_on-going.new.own c.go_on-going.new.moving) known.thread
-      (c.go_on-going.ensures.going s
+      subst (λ t. IsGoing p s t c.run_instruction-going.new.self c.run_instruction-going.new.shared
+      c.run_instruction-going.new.own c.run_instruction-going.new.moving) known.thread
+      (c.run_instruction-going.ensures.going s
       (subst (λ t. IsGoing p s t c.loop-going.self c.loop-going.shared c.loop-going.own
       c.loop-going.moving) (sym known.thread) (known.going s ready)));
 }
@@ -44,15 +44,16 @@ loop-going-smaller c =
     let p = c.args.program.now in
     let s = c.requires.0 in
     let known = c.loop-going.invariant in
-    let more = c.go_on-going.ensures.going s
+    let more = c.run_instruction-going.ensures.going s
     (subst (λ t. IsGoing p s t c.loop-going.self c.loop-going.shared c.loop-going.own
     c.loop-going.moving) (sym known.thread) (known.going s c.requires.1)) in
     let same = ap (λ (is : List Instruction). length is) c.code-code.ensures.code in
     let thread = ap (λ t. length (code_of p t)) known.thread in
     comes_further (length c.code-code.result.now) c.loop-going.moving.place
-    c.go_on-going.new.moving.place c.loop-going.going c.go_on-going.result c.loop-going-test.true
-    c.go_on-going.ensures.place (omega (arith, more.within, same, thread))
-    c.go_on-going.ensures.further
+    c.run_instruction-going.new.moving.place c.loop-going.going c.run_instruction-going.result
+    c.loop-going-test.true
+    c.run_instruction-going.ensures.place (omega (arith, more.within, same, thread))
+    c.run_instruction-going.ensures.further
 
 pub returns-clause-runs : goal.returns-clause-runs
 returns-clause-runs c = λ s ready.
@@ -64,10 +65,10 @@ returns-clause-runs c = λ s ready.
     subst (λ t. IsRunTo p s t (record {
       steps = m.steps;
       among = m.among;
-      enabled = c.finish.new.self.enabled;
-    }) c.finish.new.self c.loop-going.shared c.finish.new.own) known.thread
-    (run_over p s m.thread c.loop-going.self c.finish.new.self c.loop-going.shared c.loop-going.own
-    c.finish.new.own m _ h
-    (c.finish.ensures p (run_to p s m.thread h.done) c.loop-going.shared
+      enabled = c.finish_run.new.self.enabled;
+    }) c.finish_run.new.self c.loop-going.shared c.finish_run.new.own) known.thread
+    (run_over p s m.thread c.loop-going.self c.finish_run.new.self c.loop-going.shared
+    c.loop-going.own c.finish_run.new.own m _ h
+    (c.finish_run.ensures p (run_to p s m.thread h.done) c.loop-going.shared
     (c.code-code.ensures.code ∙ ap (code_of p) (sym known.thread)) h.passed
     (enabled_below p (run_to p s m.thread h.done) m.thread h.enabled)) refl refl)

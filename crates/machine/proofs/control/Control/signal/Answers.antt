@@ -12,23 +12,23 @@ returns-then-self-c-gt0 c = λ s cells mine poised is.
     let p = c.args.program.now in
     let t = c.args.thread in
     let but = leaves p s t _ c.args.self.now cells mine _ poised refl (λ k. refl) (λ k. refl) in
-    let f = c.take_first-first.result in
+    let f = c.dequeue-first.result in
     let inside : c.args.c < length s.queues = omega (arith, poised.fine, poised.of.queues) in
     let room : c.args.c < length c.args.self.now.lengths =
     omega (arith, c.requires.ready.3.fine, c.keeps_limits.ensures.conditions) in
     let same = to_z-of_z w64 c.args.queue (search rules) ∙ is in
     let first = first_queued c.args.self.now.lengths cells s.vars s.queues c.args.c _ f
-    poised.shared inside same c.take_first-first.ensures.first in
+    poised.shared inside same c.dequeue-first.ensures.first in
     let waits = first_waits p s t c.args.c f _ c.args.self.now cells mine poised first in
     signals p s t c.args.c f c.args.self.now c.wake.new.self cells mine poised first
-    (c.wake.ensures.shows _ t c.args.c (c.take_first-first.ensures.rest p s t but
+    (c.wake.ensures.shows _ t c.args.c (c.dequeue-first.ensures.rest p s t but
     inside)
     (first_apart p s t c.args.c f _ c.args.self.now cells mine poised waits) waits
     (first_below p s t c.args.c f _ c.args.self.now cells mine poised first))
     (subst (λ ls. AreShared ls cells s.vars (set s.queues c.args.c (drop 1 (queue_of s c.args.c))))
-    (sym (c.wake.ensures.lengths ∙ c.take_first-first.ensures.lengths))
+    (sym (c.wake.ensures.lengths ∙ c.dequeue-first.ensures.lengths))
     (unqueued c.args.self.now.lengths cells s.vars s.queues c.args.c _ f poised.shared
-    inside room same c.take_first-first.ensures.first))
+    inside room same c.dequeue-first.ensures.first))
 
 pub returns-else-self-c-gt0 : goal.returns-else-self-c-gt0
 returns-else-self-c-gt0 c = λ s cells mine poised is. signals_nobody c.args.program.now s
@@ -39,15 +39,15 @@ wake-requires c =
     let s = c.requires.ready.0 in
     let poised = c.requires.ready.3 in
     let inside : c.args.c < length s.queues = omega (arith, poised.fine, poised.of.queues) in
-    let l = first_below c.args.program.now s c.args.thread c.args.c c.take_first-first.result _
+    let l = first_below c.args.program.now s c.args.thread c.args.c c.dequeue-first.result _
     c.args.self.now c.requires.ready.1 c.requires.ready.2 poised
     (first_queued c.args.self.now.lengths c.requires.ready.1 s.vars s.queues c.args.c _
-    c.take_first-first.result poised.shared inside
+    c.dequeue-first.result poised.shared inside
     (to_z-of_z w64 c.args.queue (search rules) ∙ c.requires.ready.4)
-    c.take_first-first.ensures.first) in
+    c.dequeue-first.ensures.first) in
     record { thread = omega (arith, l, poised.of.threads) }
 
-pub take_first-first-requires-clause-few : goal.take_first-first-requires-clause-few
-take_first-first-requires-clause-few c = few_wait c.args.program.now c.requires.ready.0
+pub dequeue-first-requires-clause-few : goal.dequeue-first-requires-clause-few
+dequeue-first-requires-clause-few c = few_wait c.args.program.now c.requires.ready.0
     c.args.thread
     c.args.c _ c.args.self.now c.requires.ready.1 c.requires.ready.2 c.requires.ready.3 refl

@@ -8,8 +8,9 @@ use Rattle.machine.proofs.control.Control.stand_running.Goals as goal
 
 pub returns-in-Lock-clause-stands : goal.returns-in-Lock-clause-stands
 returns-in-Lock-clause-stands c = λ s objects apart.
-    subst (λ a. Stands c.args.self.now c.stand_at.new.self s c.args.thread a c.stand_at.result)
-    (ap action_of (sym c.in-Lock.is)) (c.stand_at.ensures.stands s Locks objects apart tt)
+    subst (λ a. Stands c.args.self.now c.stand_at_mutex.new.self s c.args.thread a
+    c.stand_at_mutex.result)
+    (ap action_of (sym c.in-Lock.is)) (c.stand_at_mutex.ensures.stands s Locks objects apart tt)
 
 pub returns-in-Acquire-clause-stands : goal.returns-in-Acquire-clause-stands
 returns-in-Acquire-clause-stands c = λ s objects apart.

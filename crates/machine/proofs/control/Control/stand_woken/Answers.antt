@@ -6,5 +6,6 @@ use Rattle.machine.proofs.control.Control.stand_woken.Goals as goal
 
 pub returns-in-Wait-clause-stands : goal.returns-in-Wait-clause-stands
 returns-in-Wait-clause-stands c = λ s objects apart.
-    subst (λ a. Stands c.args.self.now c.stand_at.new.self s c.args.thread a c.stand_at.result)
-    (ap retake_of (sym c.in-Wait.is)) (c.stand_at.ensures.stands s Retakes objects apart tt)
+    subst (λ a. Stands c.args.self.now c.stand_at_mutex.new.self s c.args.thread a
+    c.stand_at_mutex.result)
+    (ap retake_of (sym c.in-Wait.is)) (c.stand_at_mutex.ensures.stands s Retakes objects apart tt)

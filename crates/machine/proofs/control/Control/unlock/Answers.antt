@@ -15,12 +15,12 @@ pub returns : goal.returns
 returns c = λ p s cells mine poised.
     let few : c.args.mutex < length c.args.self.now.owners =
     omega (arith, c.requires.ready.5.fine, c.requires.ready.4.mutexes) in
-    unlocks p s c.args.thread _ c.args.self.now c.give_back.new.self cells mine c.args.mutex
+    unlocks p s c.args.thread _ c.args.self.now c.free_mutex.new.self cells mine c.args.mutex
     poised refl
     (owns_number c.args.thread _ _ c.requires.thread
     (poised.control.objects.owners_are c.args.mutex)
     ∙ owner_is c.args.self.now.owners c.args.mutex c.args.thread few c.if-self-mutex.false)
-    c.give_back.ensures.lengths
-    (c.give_back.ensures.frees p s c.args.thread
+    c.free_mutex.ensures.lengths
+    (c.free_mutex.ensures.frees p s c.args.thread
     (leaves p s c.args.thread _ c.args.self.now cells mine _ poised refl (λ n. refl) (λ k. refl))
     (omega (arith, poised.fine, poised.of.owners)))

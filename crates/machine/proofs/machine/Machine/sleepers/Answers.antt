@@ -11,26 +11,28 @@ pub returns-then-is_empty : goal.returns-then-is_empty
 returns-then-is_empty c = λ s shows on.
     let none = c.if-is_empty.ensures.none refl in
     let Z = has c.args.asleep in
-    is_mask_of c.tried-sleepers.result (next_sleep_set c.args._program.now s Z c.args.thread)
+    is_mask_of c.sleep_candidates-sleepers.result
+    (next_sleep_set c.args._program.now s Z c.args.thread)
     (search rules)
     (λ v l. none v ∙ untried c.args._program.now c.args.self.now s Z c.args.thread
-    c.tried-sleepers.result shows c.tried-sleepers.ensures.others v (none v))
+    c.sleep_candidates-sleepers.result shows c.sleep_candidates-sleepers.ensures.others v (none v))
 
 pub loop-other-init : goal.loop-other-init
 loop-other-init c =
-    let all = c.tried-sleepers.result in
+    let all = c.sleep_candidates-sleepers.result in
     let apart : (v : ℕ) → has all v ≡ true → c.args.thread ≢ v =
     λ v h e. (let no : true ≡ false =
-    sym h ∙ (ap (has all) (sym e) ∙ c.tried-sleepers.ensures.itself) in cc) in
+    sym h ∙ (ap (has all) (sym e) ∙ c.sleep_candidates-sleepers.ensures.itself) in cc) in
     record {
       fits = search rules;
       tried = λ v h. (
         apart v h,
-        sym (c.tried-sleepers.ensures.others v (λ e. apart v h (sym e))) ∙ h,
+        sym (c.sleep_candidates-sleepers.ensures.others v (λ e. apart v h (sym e))) ∙ h,
       );
       kept = λ v h. h;
       over = λ s shows on v h. h ∙ untried c.args._program.now c.args.self.now s
-          (has c.args.asleep) c.args.thread all shows c.tried-sleepers.ensures.others v h;
+          (has c.args.asleep) c.args.thread all shows
+          c.sleep_candidates-sleepers.ensures.others v h;
     }
 
 pub touch-requires : goal.touch-requires

@@ -10,10 +10,10 @@ returns-in-OnMutex c = one_written c.writing.result (4 * c.in-OnMutex.m + 1)
 
 pub returns-in-Wait : goal.returns-in-Wait
 returns-in-Wait c = two_written c.writing-in-Wait.result c.writing-in-Wait-2.result
-    c.and.result (4 * c.in-Wait.c + 2) (4 * c.in-Wait.m + 1)
+    c.union.result (4 * c.in-Wait.c + 2) (4 * c.in-Wait.m + 1)
     c.writing-in-Wait.ensures.all c.writing-in-Wait.ensures.written
     c.writing-in-Wait-2.ensures.all c.writing-in-Wait-2.ensures.written
-    c.and.ensures.all c.and.ensures.written
+    c.union.ensures.all c.union.ensures.written
     ∙ ap (λ a. touch_of (Some a)) (sym c.in-Wait.is)
 
 pub returns-in-OnCondition : goal.returns-in-OnCondition

@@ -25,7 +25,7 @@ last_is c =
 pub invariant_of-self : goal.invariant_of-self
 invariant_of-self c =
     let i = c.self.inside in
-    rw (last_is c, c.top-top.ensures.start)
+    rw (last_is c, c.top_way-top.ensures.start)
     (packed_more _ _ _ _ (vec_capacity i.last) _ (omega (arith, c.step_back.ensures.room))
     (packed_pop i.count i.bytes.now i.last.items i.first.now (vec_capacity i.last) c.self.invariant
     (some c)))
@@ -33,5 +33,5 @@ invariant_of-self c =
 pub returns : goal.returns
 returns c =
     let i = c.self.inside in
-    rw (last_is c, c.top-top.ensures.start, ← c.self.view_is)
+    rw (last_is c, c.top_way-top.ensures.start, ← c.self.view_is)
     (view_pop i.count i.bytes.now i.last.items (some c))

@@ -33,11 +33,11 @@ left c =
     c.self.invariant.1
     (rw (← ways) (omega (
       arith,
-      c.top-top.ensures.start,
-      c.top-top.ensures.ordered,
-      c.top-top.ensures.within,
+      c.top_way-top.ensures.start,
+      c.top_way-top.ensures.ordered,
+      c.top_way-top.ensures.within,
     )))
-    (rw (c.truncate.ensures.items, c.top-top.ensures.start, ways) refl) back)
+    (rw (c.truncate.ensures.items, c.top_way-top.ensures.start, ways) refl) back)
 
 pub invariant_of-self : goal.invariant_of-self
 invariant_of-self c = (

@@ -3,13 +3,13 @@ use Rattle.prefix_list.proofs.PackedPrefixes.{taken_after}
 use Rattle.prefix_list.proofs.ListFields.{none_in, last_in}
 use Rattle.prefix_list.proofs.prefixes.Prefixes.push.Goals as goal
 
-pub start-requires : goal.start-requires
-start-requires c = none_in c.self.inside c.args.self.now c.self.view_is c.if-self-eq0.true
+pub push_first-requires : goal.push_first-requires
+push_first-requires c = none_in c.self.inside c.args.self.now c.self.view_is c.if-self-eq0.true
 
 pub returns-then-self-eq0 : goal.returns-then-self-eq0
 returns-then-self-eq0 c =
     let none = none_in c.self.inside c.args.self.now c.self.view_is c.if-self-eq0.true in
-    rw none c.start.ensures
+    rw none c.push_first.ensures
 
 pub returns : goal.returns
 returns c =

@@ -17,9 +17,9 @@ grown c =
     let k = c.args.shared in
     one_more c.self.inside c.args.self.now c.args.rest.now _ _ _ k _ c.self.invariant
     c.self.view_is (omega arith)
-    (omega (arith, c.if-is_short.ensures.shared, c.self.inside.last.ok.0))
+    (omega (arith, c.if-has_short_way.ensures.shared, c.self.inside.last.ok.0))
     (take_rest c.deref.result.now k ∙ ap (drop k) c.deref.ensures.value)
-    (omega (arith, c.if-is_short.ensures.rest)) c.put_short_way.ensures
+    (omega (arith, c.if-has_short_way.ensures.rest)) c.put_short_way.ensures
     (c.put_reserved.ensures.items ∙ ap (λ x. x ++ c.args.rest.now) c.truncate.ensures.items)
     (omega (arith, c.put_reserved.ensures.room, c.truncate.ensures.capacity))
     (omega (arith, top.ok.0, top.ok.1))
@@ -27,5 +27,5 @@ grown c =
 pub invariant_of-self : goal.invariant_of-self
 invariant_of-self c = ((grown c).within, (grown c).packed)
 
-pub returns-then-is_short : goal.returns-then-is_short
-returns-then-is_short c = (grown c).view
+pub returns-then-has_short_way : goal.returns-then-has_short_way
+returns-then-has_short_way c = (grown c).view

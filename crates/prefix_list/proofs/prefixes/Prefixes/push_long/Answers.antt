@@ -5,13 +5,13 @@ use Rattle.prefix_list.proofs.PackedPrefixes.{went_well, Holds, after_none, take
 use Rattle.prefix_list.proofs.ListFields.{none_in, last_in, more_counted, with_room, one_more}
 use Rattle.prefix_list.proofs.prefixes.Prefixes.push_long.Goals as goal
 
-pub start-requires : goal.start-requires
-start-requires c = none_in c.self.inside c.args.self.now c.self.view_is c.if-self-eq0.true
+pub push_first-requires : goal.push_first-requires
+push_first-requires c = none_in c.self.inside c.args.self.now c.self.view_is c.if-self-eq0.true
 
 pub returns-then-self-eq0 : goal.returns-then-self-eq0
 returns-then-self-eq0 c =
     let none = none_in c.self.inside c.args.self.now c.self.view_is c.if-self-eq0.true in
-    rw (after_none c.args.self.now c.args.rest.now c.args.shared none, none) c.start.ensures
+    rw (after_none c.args.self.now c.args.rest.now c.args.shared none, none) c.push_first.ensures
 
 pub overflow_add-self : goal.overflow_add-self
 overflow_add-self c = omega (arith, more_counted c.self.inside c.self.invariant)

@@ -5,13 +5,13 @@ use Rattle.prefix_list.proofs.seeker.Seeker.before.Goals as goal
 pub returns-then-self-kept-clause-shared : goal.returns-then-self-kept-clause-shared
 returns-then-self-kept-clause-shared c = λ last long alike. alike
     ∙ kept_before c.saturating_sub-kept.result c.args.self.now.bytes.now last c.args.wanted.now
-    (omega (arith, long, c.saturating_sub-kept.ensures, c.top-top.ensures.dropped))
+    (omega (arith, long, c.saturating_sub-kept.ensures, c.top_way-top.ensures.dropped))
     (omega (arith, alike, c.if-self-kept.true))
 
 pub returns-clause-shared : goal.returns-clause-shared
 returns-clause-shared c = λ last long alike.
-    past_before c.saturating_sub-kept.result c.shared_len-more.result c.top-top.result.start
-    c.top-top.result.end c.args.self.now.bytes.now last c.args.wanted.now c.top-top.ensures.start
-    c.top-top.ensures.end
-    (omega (arith, long, c.saturating_sub-kept.ensures, c.top-top.ensures.dropped))
+    past_before c.saturating_sub-kept.result c.shared_len-more.result c.top_way-top.result.start
+    c.top_way-top.result.end c.args.self.now.bytes.now last c.args.wanted.now
+    c.top_way-top.ensures.start c.top_way-top.ensures.end
+    (omega (arith, long, c.saturating_sub-kept.ensures, c.top_way-top.ensures.dropped))
     (omega (arith, alike, c.if-self-kept.false)) c.shared_len-more.ensures.all

@@ -59,7 +59,8 @@ pub returns-then-not-branch-clause-book : goal.returns-then-not-branch-clause-bo
 returns-then-not-branch-clause-book c =
     let b = c.args.book.now in
     let no : c.settle_all.result ≡ Ok false = search rules in
-    let lists = c.in_ok-walk_on.ensures.added.lists ∙ (c.clear.ensures.lists ∙ c.lists.ensures) in
+    let lists = c.in_ok-walk_on.ensures.added.lists
+    ∙ (c.clear.ensures.lists ∙ c.lists_deferred.ensures) in
     inr (record {
       book = c.settle_all.ensures.same (not_both c.settle_all.result no);
       none = ⊎_elim (λ p. let both : false ≡ true = sym p.1 ∙ (lists ∙ p.0) in absurd cc)

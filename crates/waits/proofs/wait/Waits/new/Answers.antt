@@ -38,11 +38,12 @@ loop-t-preserved c =
             threads = passed_more test t (map thread old) _ c.loop-t.invariant.threads
                 (ap is_some is) (ap (map thread) pushed ∙ map_push thread old _);
             each = subst (All P) (sym pushed) (All-push P old _ c.loop-t.invariant.each
-                (wait_told p told fates _ w.in-Some.blocked c.edges_of-edges.result
+                (wait_told p told fates _ w.in-Some.blocked c.wait_for_graph-edges.result
                 c.transitive_closure-leads.result is refl
                 (subst Q w.steps.ensures w.last_step.ensures)
                 (subst R w.as_slice-in-Some.ensures.value w.in_ok-statements_of.ensures) refl
-                w.circle_of.ensures c.edges_of-edges.ensures c.transitive_closure-leads.ensures));
+                w.circle_of.ensures c.wait_for_graph-edges.ensures
+                c.transitive_closure-leads.ensures));
           })
       | in_default w ↦ (let kept = ap (λ v. v.items) w.waits-is in record {
         threads = ap (map thread) kept

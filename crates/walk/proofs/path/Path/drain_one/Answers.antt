@@ -40,8 +40,8 @@ sleepers-asleep-requires-clause-enabled c =
     (children_of c.args.mode (here p t) ts ++ left_above c.args.mode p t))
     c.without_first-self.ensures c.requires.items)))
 
-pub further-requires : goal.further-requires
-further-requires c =
+pub with_prefix-requires : goal.with_prefix-requires
+with_prefix-requires c =
     let p = c.args.item.now.program in
     let t = c.args.self.now in
     subst (λ (w : List ℕ). runs p (start p) (w ++ c.in-Some.thread ∷ []) ≡ _)

@@ -119,7 +119,7 @@ loop-place-preserved c =
       arith,
       c.len.ensures,
       new.steps.ok.0,
-      c.last_place-last.ensures.few,
+      c.end_place-last.ensures.few,
       c.loop-place-test.true,
     ) in
     let more = more_at i.program m old new u c.sleepers-asleep.result run place path extended from
@@ -235,7 +235,7 @@ returns-clause-search c = λ b h. along_done m i new c.loop-place.self f (length
     off : (lists : Bool) → c.args.found.now.lists ≡ lists → place < length new.steps.items
         → IsNoted f past
     off true is inside =
-        let all = c.last_place-last.ensures.listed is in
+        let all = c.end_place-last.ensures.listed is in
         absurd (omega (
           arith,
           inside,
@@ -245,7 +245,7 @@ returns-clause-search c = λ b h. along_done m i new c.loop-place.self f (length
           c.loop-place-test.false,
         ))
     off false is inside =
-        let few = c.last_place-last.ensures.noted is in
+        let few = c.end_place-last.ensures.noted is in
         record {
           unlisted = c.loop-place.invariant.lists ∙ is;
           beyond = c.loop-place.invariant.noted (grind (

@@ -46,8 +46,8 @@ loop-going-preserved c = record {
   over = search rules;
 }
 
-pub returns-else-is_below-clause-path : goal.returns-else-is_below-clause-path
-returns-else-is_below-clause-path c =
+pub returns-else-is_below_limit-clause-path : goal.returns-else-is_below_limit-clause-path
+returns-else-is_below_limit-clause-path c =
     let h = c.requires.search in (c.loop-going.invariant.search h.0 h.1).place.path
 
 pub returns-after-loop-going-clause-path : goal.returns-after-loop-going-clause-path

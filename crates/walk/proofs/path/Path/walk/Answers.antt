@@ -3,23 +3,23 @@ use Rattle.std.proofs.lemmas.Result.{on_ok_weaker}
 use Rattle.walk.proofs.Walks.{past_added, search_begun, search_added, items_run}
 use Rattle.walk.proofs.path.Path.walk.Goals as goal
 
-pub returns-then-is_past-clause-added : goal.returns-then-is_past-clause-added
-returns-then-is_past-clause-added c =
+pub returns-then-is_past_bound-clause-added : goal.returns-then-is_past_bound-clause-added
+returns-then-is_past_bound-clause-added c =
     let i = c.args.item.now in
     let t = c.seek.new.self in
     past_added c.args.mode i.program t.steps.items t.node i c.args.found.now _ c.args.quota
     c.seek.ensures.path.reaches c.in_ok-seek.ensures.item
-    (sym c.is_past.ensures ∙ c.if-is_past.true) c.ends-ends.ensures.kept
+    (sym c.is_past_bound.ensures ∙ c.if-is_past_bound.true) c.ends-ends.ensures.kept
     (λ k. record c.args.found.now { part = c.set_beyond.ensures k })
 
 pub run_last-requires : goal.run_last-requires
 run_last-requires c = record {
   search = (
     c.args.found.now,
-    search_begun c.args.mode c.args.item.now c.seek.new.self c.args.found.now c.begin.new.self
+    search_begun c.args.mode c.args.item.now c.seek.new.self c.args.found.now c.begin_walk.new.self
         c.in_ok-seek.ensures.place c.in_ok-seek.ensures.item c.in_ok-seek.ensures.base
-        (sym c.is_past.ensures ∙ c.if-is_past.false) c.ends-ends.ensures.kept
-        c.begin.ensures.same c.begin.ensures.shared,
+        (sym c.is_past_bound.ensures ∙ c.if-is_past_bound.false) c.ends-ends.ensures.kept
+        c.begin_walk.ensures.same c.begin_walk.ensures.shared,
   );
 }
 
@@ -28,9 +28,9 @@ expand-requires-clause-search c = (
   c.args.found.now,
   c.in_ok-run_last.ensures.search c.args.found.now
       (search_begun c.args.mode c.args.item.now c.seek.new.self c.args.found.now
-      c.begin.new.self c.in_ok-seek.ensures.place c.in_ok-seek.ensures.item
-      c.in_ok-seek.ensures.base (sym c.is_past.ensures ∙ c.if-is_past.false)
-      c.ends-ends.ensures.kept c.begin.ensures.same c.begin.ensures.shared),
+      c.begin_walk.new.self c.in_ok-seek.ensures.place c.in_ok-seek.ensures.item
+      c.in_ok-seek.ensures.base (sym c.is_past_bound.ensures ∙ c.if-is_past_bound.false)
+      c.ends-ends.ensures.kept c.begin_walk.ensures.same c.begin_walk.ensures.shared),
 )
 
 pub search-requires-clause-search : goal.search-requires-clause-search
@@ -38,9 +38,9 @@ search-requires-clause-search c = (
   c.args.found.now,
   c.in_ok-expand.ensures.search c.args.found.now (c.in_ok-run_last.ensures.search c.args.found.now
       (search_begun c.args.mode c.args.item.now c.seek.new.self c.args.found.now
-      c.begin.new.self c.in_ok-seek.ensures.place c.in_ok-seek.ensures.item
-      c.in_ok-seek.ensures.base (sym c.is_past.ensures ∙ c.if-is_past.false)
-      c.ends-ends.ensures.kept c.begin.ensures.same c.begin.ensures.shared)),
+      c.begin_walk.new.self c.in_ok-seek.ensures.place c.in_ok-seek.ensures.item
+      c.in_ok-seek.ensures.base (sym c.is_past_bound.ensures ∙ c.if-is_past_bound.false)
+      c.ends-ends.ensures.kept c.begin_walk.ensures.same c.begin_walk.ensures.shared)),
 )
 
 pub drain-requires-clause-place : goal.drain-requires-clause-place
@@ -49,9 +49,9 @@ drain-requires-clause-place c =
     (c.in_ok-expand.ensures.search c.args.found.now (c.in_ok-run_last.ensures.search
     c.args.found.now
     (search_begun c.args.mode c.args.item.now c.seek.new.self c.args.found.now
-    c.begin.new.self c.in_ok-seek.ensures.place c.in_ok-seek.ensures.item
-    c.in_ok-seek.ensures.base (sym c.is_past.ensures ∙ c.if-is_past.false)
-    c.ends-ends.ensures.kept c.begin.ensures.same c.begin.ensures.shared)))).place
+    c.begin_walk.new.self c.in_ok-seek.ensures.place c.in_ok-seek.ensures.item
+    c.in_ok-seek.ensures.base (sym c.is_past_bound.ensures ∙ c.if-is_past_bound.false)
+    c.ends-ends.ensures.kept c.begin_walk.ensures.same c.begin_walk.ensures.shared)))).place
 
 pub drain-requires-clause-items : goal.drain-requires-clause-items
 drain-requires-clause-items c =
@@ -60,9 +60,9 @@ drain-requires-clause-items c =
     (c.in_ok-expand.ensures.search c.args.found.now (c.in_ok-run_last.ensures.search
     c.args.found.now
     (search_begun c.args.mode c.args.item.now c.seek.new.self c.args.found.now
-    c.begin.new.self c.in_ok-seek.ensures.place c.in_ok-seek.ensures.item
-    c.in_ok-seek.ensures.base (sym c.is_past.ensures ∙ c.if-is_past.false)
-    c.ends-ends.ensures.kept c.begin.ensures.same c.begin.ensures.shared)))).walked
+    c.begin_walk.new.self c.in_ok-seek.ensures.place c.in_ok-seek.ensures.item
+    c.in_ok-seek.ensures.base (sym c.is_past_bound.ensures ∙ c.if-is_past_bound.false)
+    c.ends-ends.ensures.kept c.begin_walk.ensures.same c.begin_walk.ensures.shared)))).walked
 
 pub returns-clause-added : goal.returns-clause-added
 returns-clause-added c =
@@ -70,10 +70,10 @@ returns-clause-added c =
     let f = c.args.found.now in
     let t = c.seek.new.self in
     let g = c.search.new.found in
-    let past = sym c.is_past.ensures ∙ c.if-is_past.false in
-    let begun = search_begun c.args.mode i t f c.begin.new.self
+    let past = sym c.is_past_bound.ensures ∙ c.if-is_past_bound.false in
+    let begun = search_begun c.args.mode i t f c.begin_walk.new.self
     c.in_ok-seek.ensures.place c.in_ok-seek.ensures.item c.in_ok-seek.ensures.base
-    past c.ends-ends.ensures.kept c.begin.ensures.same c.begin.ensures.shared in
+    past c.ends-ends.ensures.kept c.begin_walk.ensures.same c.begin_walk.ensures.shared in
     let few = c.in_ok-search.ensures.few in
     let tried = c.tried.ensures in
     let quota = c.from.ensures in

@@ -1,0 +1,321 @@
+//! The cause of how a run ended, as a backward slice: which earlier events those in it depend on.
+
+ghost use Rattle.std.specs.Prelude.{◌≡◌, ℕ, ◌<◌, ◌+◌, ◌-◌, ◌^◌, ◌||◌, ◌&&◌, not, false, [], length, All, IfSome, OnOk, Option, None, slice_index_or, if◌then◌else◌};
+ghost use Rattle.std.specs.List.{list_any};
+ghost use Rattle.guest_code.specs.declared.limits.TheConstants.{THREADS, LOCALS, VARIABLES};
+ghost use Rattle.guest_code.specs.Program.{Program, JumpsWithin, skip_of};
+ghost use Rattle.lint.specs.Uses.{is, local_set, reads as uses_value, variable_used};
+ghost use Rattle.causes.specs.Events.{reads, writes};
+ghost use Rattle.causes.specs.Asked.{asks_for};
+ghost use Rattle.lint.specs.Paths.{is_test};
+ghost use Rattle.causes.specs.Tests.{merge_point};
+ghost use Rattle.causes.specs.Causes.{any_below, ends_with, least_with, lesser};
+ghost use Rattle.causes.specs.inner.Wanting.{IsValidEvent, IsWanted};
+ghost use Rattle.causes.specs.inner.Keeping.{IsMovedBefore, decides_by, found, is_missed_by_in, is_missed_in, needs};
+
+use crate::direct_cause::is_direct_cause;
+use crate::event::Event;
+use guest_code::limits::{LOCALS, THREADS, VARIABLES};
+use guest_code::program::{Instruction, Program};
+use lint::paths::{is_test, skip_of};
+use lint::uses::{is_in_option, reads, variable_used};
+use std::alloc::{AllocError, Global};
+
+// A backward slice of a run, whose events are taken from the last to the first: what the events of
+// the cause, of those taken so far, depend on.
+#[derive(Drop)]
+pub struct BackwardSlice {
+    // For each variable whether an event of the cause reads the value that it has before the events
+    // taken.
+    pub read: [bool; VARIABLES],
+    // For each thread and local whether an event of the cause uses the value that the local has
+    // before the events taken.
+    pub used: [[bool; LOCALS]; THREADS],
+    // For each thread and variable whether the thread's first use of it in the events taken is in
+    // the cause.
+    pub next: [[bool; VARIABLES]; THREADS],
+    // For each thread and variable how often the thread uses it before the events taken.
+    pub uses: [[usize; VARIABLES]; THREADS],
+    // For each thread the least number of an instruction in the cause, of the events taken.
+    pub least: [Option<usize>; THREADS],
+    // The ends of the run in the events taken, the last one first.
+    pub ends: Vec<Event>,
+}
+
+impl BackwardSlice {
+    // The slice at the end of a run with these events, before any is taken.
+    pub fn at_end(alloc: Global, program: &Program, events: &[Event]) -> BackwardSlice
+        requires { All (IsValidEvent program.now) events.now }
+        ensures { IsWanted events.now [] result }
+    {
+        program.keeps_limits();
+        let mut uses = [[0; VARIABLES]; THREADS];
+        for event in events {
+            count_use(
+                &mut uses[event.thread as usize],
+                variable_used(&event.statement),
+            );
+        }
+        BackwardSlice {
+            read: [false; VARIABLES],
+            used: [[false; LOCALS]; THREADS],
+            next: [[false; VARIABLES]; THREADS],
+            uses,
+            least: [None; THREADS],
+            ends: Vec::new(alloc),
+        }
+    }
+
+    // Whether an event, the next one to be taken, is in the cause of how the run ended: whether it
+    // is an end of the run, or a later event of the cause depends on it.
+    pub fn needs(&self, program: &Program, event: &Event) -> bool
+        requires { IsValidEvent program.now event.now }
+        ensures { result ≡ needs program.now self.now event.now }
+    {
+        program.keeps_limits();
+        event.is_end()
+            || self.is_read_from(event.variable_written())
+            || self.is_assignment_used(event.thread, event.local_set())
+            || self.is_deciding_test(program, event)
+            || self.interferes(event.thread, event.variable_written())
+            || self.is_direct_cause_of_end(program, event)
+    }
+
+    // Whether an event of the cause reads the value that the next event to be taken wrote to a
+    // variable, `written`; false where it wrote none.
+    fn is_read_from(&self, written: Option<usize>) -> bool
+        requires { IfSome written (λ x. x < VARIABLES) }
+        ensures { result ≡ found self.now.read written }
+    {
+        match written {
+            Some(x) => self.read[x],
+            None => false,
+        }
+    }
+
+    // Whether an event of the cause uses the value that the next event to be taken, one of this
+    // thread, gave local `set`; false where it set none.
+    fn is_assignment_used(&self, thread: u8, set: Option<usize>) -> bool
+        requires thread { thread < THREADS }
+        requires local { IfSome set (λ r. r < LOCALS) }
+        ensures { result ≡ found (slice_index_or self.now.used thread []) set }
+    {
+        match set {
+            Some(r) => self.used[thread as usize][r],
+            None => false,
+        }
+    }
+
+    // Whether an event, the next one to be taken, is a test on which the cause may depend: whether
+    // some later event of its thread is in the cause, and its instruction is not behind the one at
+    // which the branches of the test merge.
+    fn is_deciding_test(&self, program: &Program, event: &Event) -> bool
+        requires { IsValidEvent program.now event.now }
+        ensures { result ≡ decides_by program.now event.now
+            (slice_index_or self.now.least event.now.thread None) }
+    {
+        program.keeps_limits();
+        if !is_test(&event.statement) {
+            return false;
+        }
+        match self.least[event.thread as usize] {
+            Some(least) => least <= merge_point(program.code(event.thread), event.instruction),
+            None => false,
+        }
+    }
+
+    // Whether the next event to be taken, one of this thread, writes a variable, `written`, between
+    // two uses of the variable by another thread, the second of which, its next, is in the cause.
+    // False where the event wrote none.
+    fn interferes(&self, thread: u8, written: Option<usize>) -> bool
+        requires { IfSome written (λ x. x < VARIABLES) }
+        ensures { result ≡ is_missed_in self.now thread written }
+    {
+        match written {
+            Some(x) => self.interferes_with_some(thread as usize, x),
+            None => false,
+        }
+    }
+
+    // Whether a write of a variable by a thread, as the next event to be taken, is between two uses
+    // of the variable by some other thread, the second of which, its next, is in the cause.
+    fn interferes_with_some(&self, thread: usize, variable: usize) -> bool
+        requires { variable < VARIABLES }
+        ensures { result ≡ any_below (is_missed_by_in self.now thread variable) THREADS }
+    {
+        for other in 0..THREADS {
+            if self.interferes_with(thread, variable, other) {
+                return true;
+            }
+        }
+        false
+    }
+
+    // Whether a write of a variable by a thread, as the next event to be taken, is between two uses
+    // of the variable by thread `other`, the second of which, its next, is in the cause. False of a
+    // thread's own writes.
+    fn interferes_with(&self, thread: usize, variable: usize, other: usize) -> bool
+        requires variable { variable < VARIABLES }
+        requires other { other < THREADS }
+        ensures { result ≡ is_missed_by_in self.now thread variable other }
+    {
+        other != thread && self.next[other][variable] && self.uses[other][variable] > 0
+    }
+
+    // Whether an event, the next one to be taken, is a direct cause of a later end of the run, for
+    // what it does to the object at which a thread stopped, or for which one waits.
+    fn is_direct_cause_of_end(&self, program: &Program, event: &Event) -> bool
+        requires { IsValidEvent program.now event.now }
+        ensures { result ≡ list_any (λ end. asks_for program.now end event.now)
+            self.now.ends.items }
+    {
+        self.ends
+            .iter()
+            .any(|end| is_direct_cause(program, end, event))
+    }
+
+    // Takes the next event of the run, the one before those taken so far. Whether the event is in
+    // the cause is `needed`.
+    pub fn take_event(&mut self, event: &Event, needed: bool) -> Result<(), AllocError>
+        requires thread { event.now.thread < THREADS }
+        requires inside { IfSome (variable_used event.now.statement) (λ x. x < VARIABLES) }
+        requires used { IfSome (variable_used event.now.statement)
+            (λ x. 0 < slice_index_or (slice_index_or self.old.uses event.now.thread []) x 0) }
+        ensures { OnOk result (IsMovedBefore event.now needed self.old self.new) }
+    {
+        let thread = event.thread as usize;
+        let used = variable_used(&event.statement);
+        update_read(&mut self.read, event, needed);
+        update_used(&mut self.used[thread], event, needed);
+        update_next(&mut self.next[thread], used, needed);
+        uncount_use(&mut self.uses[thread], used);
+        self.least[thread] = least_with(self.least[thread], event.instruction, needed);
+        put_end(&mut self.ends, event)
+    }
+}
+
+// Updates `read` for an event that is taken: for each variable whether an event of the cause reads
+// the value that it has before the events taken. Whether this event is in the cause is `needed`.
+fn update_read(read: &mut [bool; VARIABLES], event: &Event, needed: bool)
+    ensures { (x : ℕ) → x < VARIABLES → slice_index_or read.new x false
+        ≡ ((needed && reads x event.now)
+        || (not (writes x event.now) && slice_index_or read.old x false)) }
+{
+    let reads = event.variable_read();
+    let writes = event.variable_written();
+    for x in 0..VARIABLES {
+        read[x] = needed && is_in_option(x, reads) || !is_in_option(x, writes) && read[x];
+    }
+}
+
+// Updates `used` for an event of a thread that is taken: for each local of the thread whether an
+// event of the cause uses the value that it has before the events taken. Whether this event is in
+// the cause is `needed`.
+fn update_used(used: &mut [bool; LOCALS], event: &Event, needed: bool)
+    ensures { (r : ℕ) → r < LOCALS → slice_index_or used.new r false
+        ≡ ((needed && uses_value r event.now.statement)
+        || (not (is r (local_set event.now.statement)) && slice_index_or used.old r false)) }
+{
+    for r in 0..LOCALS {
+        used[r] = is_used_from(event, r, needed, used[r]);
+    }
+}
+
+// Whether an event of the cause uses the value that a local has before `event`, one of the local's
+// thread. Whether this event is in the cause is `needed`; `after` is the answer for the value after
+// it.
+fn is_used_from(event: &Event, local: usize, needed: bool, after: bool) -> bool
+    ensures { result ≡ ((needed && uses_value local event.now.statement)
+        || (not (is local (local_set event.now.statement)) && after)) }
+{
+    needed && reads(local, &event.statement) || !is_in_option(local, event.local_set()) && after
+}
+
+// Updates `next` for an event of a thread that is taken: for each variable whether the thread's
+// next use of it is in the cause. The event uses variable `used`, if any, and is in the cause if
+// `needed`.
+fn update_next(next: &mut [bool; VARIABLES], used: Option<usize>, needed: bool)
+    requires { IfSome used (λ x. x < VARIABLES) }
+    ensures { (x : ℕ) → x < VARIABLES → slice_index_or next.new x false
+        ≡ (if is x used then needed else slice_index_or next.old x false) }
+{
+    if let Some(x) = used {
+        next[x] = needed;
+    }
+}
+
+// Counts one more use of a variable in a thread's `uses` of each variable; none for `None`.
+fn count_use(uses: &mut [usize; VARIABLES], used: Option<usize>)
+    requires inside { IfSome used (λ x. x < VARIABLES) }
+    requires few { IfSome used (λ x. slice_index_or uses.old x 0 + 1 < 2 ^ 64) }
+    ensures { (x : ℕ) → x < VARIABLES → slice_index_or uses.new x 0
+        ≡ (if is x used then slice_index_or uses.old x 0 + 1 else slice_index_or uses.old x 0) }
+{
+    if let Some(x) = used {
+        uses[x] += 1;
+    }
+}
+
+// Counts one use less of a variable in a thread's `uses` of each variable; none for `None`.
+fn uncount_use(uses: &mut [usize; VARIABLES], used: Option<usize>)
+    requires inside { IfSome used (λ x. x < VARIABLES) }
+    requires some { IfSome used (λ x. 0 < slice_index_or uses.old x 0) }
+    ensures { (x : ℕ) → x < VARIABLES → slice_index_or uses.new x 0
+        ≡ (if is x used then slice_index_or uses.old x 0 - 1 else slice_index_or uses.old x 0) }
+{
+    if let Some(x) = used {
+        uses[x] -= 1;
+    }
+}
+
+// The least number of a thread's instructions in the cause: `least` is that so far, none for
+// `None`, and `instruction` counts too if `needed`.
+fn least_with(least: Option<usize>, instruction: usize, needed: bool) -> Option<usize>
+    ensures { result ≡ least_with least instruction needed }
+{
+    if needed {
+        Some(lesser(least, instruction))
+    } else {
+        least
+    }
+}
+
+// Adds an event to the ends of a run, if the event is one: if its thread stops in it in an error,
+// or is blocked at the end of the run.
+fn put_end(ends: &mut Vec<Event>, event: &Event) -> Result<(), AllocError>
+    ensures { OnOk result (ends.new.items ≡ ends_with ends.old.items event.now) }
+{
+    if event.is_end() {
+        ends.push(*event)?;
+    }
+    Ok(())
+}
+
+// The lesser of the numbers of two instructions; `instruction` where `least` is `None`.
+fn lesser(least: Option<usize>, instruction: usize) -> usize
+    ensures { result ≡ lesser least instruction }
+{
+    match least {
+        Some(least) if least < instruction => least,
+        _ => instruction,
+    }
+}
+
+// The number of the instruction at which the branches of a jump merge: the first behind all
+// instructions that the jump passes over, and that the jumps among those pass over. All jumps go
+// forwards.
+fn merge_point(code: &[Instruction], instruction: usize) -> usize
+    requires short { length code.now < 2 ^ 32 }
+    requires jumps { JumpsWithin code.now }
+    requires inside { instruction < length code.now }
+    ensures { result ≡ merge_point code.now instruction }
+{
+    let mut reach = instruction + 1;
+    for at in instruction..code.len() {
+        if at >= reach {
+            return reach;
+        }
+        reach = reach.max(at + 1 + skip_of(&code[at]));
+    }
+    reach
+}

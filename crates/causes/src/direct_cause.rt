@@ -1,0 +1,134 @@
+//! Which events are direct causes of the end of a run, for what they do to the object of that end.
+
+ghost use Rattle.std.specs.Prelude.{◌≡◌};
+ghost use Rattle.std.specs.List.{list_any};
+ghost use Rattle.causes.specs.Asked.{asks_for, could_end, is_asked_of_owner, is_by_owner, is_not_before, is_taking_step, passes_by, shares_object};
+ghost use Rattle.causes.specs.inner.Wanting.{IsValidEvent};
+
+use crate::event::{Deed, Event};
+use explain::{Holder, Reason};
+use guest_code::program::{Instruction, Program};
+use lint::uses::{Use, is_in_option};
+
+/// Whether an earlier event is a direct cause of `end`, by which a thread stopped or is blocked at
+/// the end of the run:
+///
+/// - where it stopped at a mutex or a semaphore: each statement that names that object
+/// - where it waits for a mutex: the step by which the owner took the mutex, and each jump of the
+///   owner since then over an `unlock` of it
+/// - where it waits for a condition: each statement that names the condition, and each jump of
+///   another thread over a `signal` or a `broadcast` of it
+/// - where it waits for a semaphore: each statement that names the semaphore, and each jump over a
+///   `release` of it
+///
+/// An assertion that failed has no direct causes.
+pub fn is_direct_cause(program: &Program, end: &Event, event: &Event) -> bool
+    requires { IsValidEvent program.now event.now }
+    ensures { result ≡ asks_for program.now end.now event.now }
+{
+    match end.deed {
+        Deed::Ran(_) | Deed::Stepped(_, None) => false,
+        Deed::Stepped(_, Some(_)) => shares_object(&end.statement, &event.statement),
+        Deed::Blocked(Reason::Signal(c), _) => {
+            Use::OfCondition.is_made(c, &event.statement)
+                || event.thread != end.thread && passes_by(program, event, Reason::Signal(c))
+        }
+        Deed::Blocked(Reason::Acquire(k), _) => {
+            Use::OfSemaphore.is_made(k, &event.statement)
+                || passes_by(program, event, Reason::Acquire(k))
+        }
+        Deed::Blocked(reason, holder) => is_direct_cause_by_owner(program, reason, holder, event),
+    }
+}
+
+// Whether an event is a direct cause of a wait for a mutex that `holder` owns: the step by which
+// the owner took the mutex, or a jump of the owner since then over an `unlock` of it. Without an
+// owner there is none. `reason` is the reason of the wait.
+fn is_direct_cause_by_owner(
+    program: &Program,
+    reason: Reason,
+    holder: Option<Holder>,
+    event: &Event,
+) -> bool
+    requires { IsValidEvent program.now event.now }
+    ensures { result ≡ is_asked_of_owner program.now reason holder event.now }
+{
+    match holder {
+        None => false,
+        Some(holder) => {
+            is_taking_step(holder, event)
+                || is_by_owner_since(holder, event) && passes_by(program, event, reason)
+        }
+    }
+}
+
+// Whether `statement` names the mutex or the semaphore of `stopped`, the statement at which a
+// thread stopped: an `unlock` or a `wait` of a mutex that it didn't own, or a `release` of a full
+// semaphore.
+fn shares_object(stopped: &Instruction, statement: &Instruction) -> bool
+    ensures { result ≡ shares_object stopped.now statement.now }
+{
+    match stopped {
+        Instruction::Unlock(m) => Use::OfMutex.is_made(*m, statement),
+        Instruction::Wait { mutex, .. } => Use::OfMutex.is_made(*mutex, statement),
+        Instruction::Release(k) => Use::OfSemaphore.is_made(*k, statement),
+        _ => false,
+    }
+}
+
+// Whether an event is the step by which `holder`, the owner of a mutex, took the mutex.
+fn is_taking_step(holder: Holder, event: &Event) -> bool
+    ensures { result ≡ is_taking_step holder event.now }
+{
+    event.is_step() && is_in_option(holder.since, event.step)
+}
+
+// Whether an event is one of the thread that owns a mutex, `holder`, in the step by which it took
+// the mutex or in a later one, or in the local run after such a step.
+fn is_by_owner_since(holder: Holder, event: &Event) -> bool
+    ensures { result ≡ is_by_owner holder event.now }
+{
+    event.thread == holder.thread && is_not_before(holder.since, event.step)
+}
+
+// Whether an event's step, if it has one, is at place `since` of the schedule or at a later place.
+fn is_not_before(since: usize, step: Option<usize>) -> bool
+    ensures { result ≡ is_not_before since step }
+{
+    match step {
+        Some(step) => since <= step,
+        None => false,
+    }
+}
+
+// Whether an event is a jump of its thread over a statement that could end a wait for this reason.
+fn passes_by(program: &Program, event: &Event, reason: Reason) -> bool
+    requires { IsValidEvent program.now event.now }
+    ensures { result ≡ passes_by program.now event.now reason }
+{
+    let rest = &program.code(event.thread)[event.instruction + 1..];
+    some_could_end(reason, &rest[..event.jump().min(rest.len())])
+}
+
+// Whether one of these statements could end a wait for this reason.
+fn some_could_end(reason: Reason, statements: &[Instruction]) -> bool
+    ensures { result ≡ list_any (could_end reason) statements.now }
+{
+    statements
+        .iter()
+        .any(|statement| could_end(reason, statement))
+}
+
+// Whether a statement could end a wait for this reason: for a mutex an `unlock`, for a condition a
+// `signal` or `broadcast`, for a semaphore a `release` of it. A `wait` doesn't count as an
+// `unlock`.
+fn could_end(reason: Reason, statement: &Instruction) -> bool
+    ensures { result ≡ could_end reason statement.now }
+{
+    match (reason, statement) {
+        (Reason::Lock(m) | Reason::Retake(m), Instruction::Unlock(n)) => *n == m,
+        (Reason::Signal(c), _) => Use::Signals.is_made(c, statement),
+        (Reason::Acquire(k), _) => Use::Releases.is_made(k, statement),
+        _ => false,
+    }
+}

@@ -1,0 +1,158 @@
+//! The values that a thread gives its locals in a step and in the local run after it.
+
+ghost use Rattle.std.specs.Prelude.{IfOk, ◌≡◌, ◌<◌, ◌++◌, length, drop, OnOk, IfSome};
+ghost use Rattle.guest_code.specs.Program.{Program, IsValidCode, IsValid};
+ghost use Rattle.explain.specs.Settings.{settings_in, setting_by, listed, locals_with, settings_by};
+ghost use Rattle.explain.specs.inner.Runs.{set_at};
+
+use guest_code::limits::LOCALS;
+use guest_code::program::Instruction;
+use replay::Act;
+use semantics::{Turn, next_local};
+use std::alloc::{AllocError, Global};
+
+/// An assignment to a local, by an instruction that a thread carries out.
+#[derive(Clone, Copy, Debug, PartialEq, Eq)]
+pub struct Assignment {
+    /// The number of the instruction that sets the local.
+    pub instruction: usize,
+    /// The local, by its number.
+    pub local: usize,
+    /// The value that the local gets.
+    pub value: i64,
+}
+
+/// Where a thread was before a step, with the values of its locals, and where it was after the step
+/// and its local run.
+#[derive(Clone, Copy, Debug)]
+pub struct Passage {
+    /// The number of the instruction of the step.
+    pub from: usize,
+    /// The number of the instruction that the thread was at afterwards; `from` where no local run
+    /// followed, since the thread stopped at the step or began to wait.
+    pub to: usize,
+    /// The values of the thread's locals before the step.
+    pub locals: [i64; LOCALS],
+}
+
+/// The assignments of a thread with this code in a step that did `act`, and in the local run after
+/// it, in order. `passage` says where the thread was before and after.
+///
+/// # Errors
+///
+/// `AllocError` where memory runs out.
+pub fn assignments_of(
+    alloc: Global,
+    code: &[Instruction],
+    passage: Passage,
+    act: Act,
+) -> Result<Vec<Assignment>, AllocError>
+    requires valid { (p : Program) × IsValidCode p code.now }
+    requires inside { passage.from < length code.now }
+    ensures { IfOk result (λ v. v.items
+        ≡ settings_by code.now passage.from passage.to passage.locals act) }
+{
+    let first = assignment_of(passage.from, &code[passage.from], act);
+    let mut assignments = list_of(alloc, first)?;
+    let mut locals = passage.locals;
+    set_local(&mut locals, first);
+    if passage.to == passage.from {
+        return Ok(assignments);
+    }
+    put_assignments(&mut assignments, code, &mut locals, passage.from + 1)?;
+    Ok(assignments)
+}
+
+// The value that a visible statement, the instruction of this number, gave a local in a step that
+// did `act`; `None` where it sets no local.
+fn assignment_of(instruction: usize, statement: &Instruction, act: Act) -> Option<Assignment>
+    requires { (p : Program) × IsValid p statement.now }
+    ensures value { result ≡ setting_by instruction statement.now act }
+    ensures local { IfSome result (λ assignment. assignment.local < LOCALS) }
+{
+    match (statement, act) {
+        (Instruction::Load { local, .. }, Act::Load { value, .. }) => Some(Assignment {
+            instruction,
+            local: *local,
+            value,
+        }),
+        (Instruction::Add { local, .. }, Act::Add { old, .. }) => Some(Assignment {
+            instruction,
+            local: *local,
+            value: old,
+        }),
+        (Instruction::Cas { local, .. }, Act::Cas { hit, .. }) => Some(Assignment {
+            instruction,
+            local: *local,
+            value: i64::from(hit.is_some()),
+        }),
+        _ => None,
+    }
+}
+
+// The assignments of an option as a list: one, or none.
+fn list_of(alloc: Global, assignment: Option<Assignment>) -> Result<Vec<Assignment>, AllocError>
+    ensures { IfOk result (λ v. v.items ≡ listed assignment) }
+{
+    let mut assignments = Vec::new(alloc);
+    if let Some(assignment) = assignment {
+        assignments.push(assignment)?;
+    }
+    Ok(assignments)
+}
+
+// Carries an assignment out in the locals of a thread; `None` changes nothing.
+fn set_local(locals: &mut [i64; LOCALS], assignment: Option<Assignment>)
+    requires { IfSome assignment (λ assignment. assignment.local < LOCALS) }
+    ensures { locals.new ≡ locals_with locals.old assignment }
+{
+    if let Some(assignment) = assignment {
+        locals[assignment.local] = assignment.value;
+    }
+}
+
+/// Adds to `assignments` what a local run from instruction `from` on sets, in order, and sets it in
+/// `locals`, which are the thread's locals before the run.
+///
+/// # Errors
+///
+/// `AllocError` where memory runs out.
+pub fn put_assignments(
+    assignments: &mut Vec<Assignment>,
+    code: &[Instruction],
+    locals: &mut [i64; LOCALS],
+    from: usize,
+) -> Result<(), AllocError>
+    requires { (p : Program) × IsValidCode p code.now }
+    ensures { OnOk result (assignments.new.items
+        ≡ assignments.old.items ++ settings_in (drop from code.now) from 0 locals.old) }
+{
+    let mut at = from;
+    while let Turn::Runs(next) = next_local(code, locals, at) {
+        put_assignment(assignments, at, &code[at], locals)?;
+        at = next;
+    }
+    Ok(())
+}
+
+// Adds the assignment of a `set` that a local run has carried out as instruction `at`; of any other
+// instruction nothing. `locals` are the thread's locals after the instruction.
+fn put_assignment(
+    assignments: &mut Vec<Assignment>,
+    at: usize,
+    instruction: &Instruction,
+    locals: &[i64; LOCALS],
+) -> Result<(), AllocError>
+    requires { (p : Program) × IsValid p instruction.now }
+    ensures { OnOk result (assignments.new.items
+        ≡ assignments.old.items ++ set_at at instruction.now locals.now) }
+{
+    if let Instruction::Set { local, .. } = instruction {
+        assignments.push(Assignment {
+            instruction: at,
+            local: *local,
+            value: locals[*local],
+        })?;
+    }
+    Ok(())
+}

@@ -1,0 +1,119 @@
+//! Where one thread is in a state, and what it waits for where it is blocked.
+
+ghost use Rattle.std.specs.Prelude.{◌≡◌, ◌<◌, length, MatchOption, Some};
+ghost use Rattle.semantics.specs.Reachable.{IsOf};
+ghost use Rattle.semantics.specs.Ends.{is_stopped};
+ghost use Rattle.explain.specs.Blocked.{IsBlockedBy, IsUnblocked, Stands, mutex_of, waited_for};
+
+use crate::object::Object;
+use guest_code::limits::LOCALS;
+use guest_code::program::Program;
+use semantics::state::{Action, MutexAction, SemaphoreAction, State, Status};
+
+/// What a blocked thread waits for.
+#[derive(Clone, Copy, Debug, PartialEq, Eq)]
+pub enum Reason {
+    /// To lock the mutex of this number, which a thread owns.
+    Lock(usize),
+    /// To take the mutex of this number again, as one who was woken; a thread owns the mutex.
+    Retake(usize),
+    /// To acquire the semaphore of this number, whose count is 0.
+    Acquire(usize),
+    /// To be woken from the queue of the condition of this number.
+    Signal(usize),
+}
+
+impl Reason {
+    /// The mutex that a thread waits for by this reason; `None` where it waits for a semaphore or a
+    /// condition.
+    pub fn mutex(self) -> Option<usize>
+        ensures { result ≡ mutex_of self }
+    {
+        match self {
+            Reason::Lock(m) | Reason::Retake(m) => Some(m),
+            Reason::Acquire(_) | Reason::Signal(_) => None,
+        }
+    }
+}
+
+impl Reason {
+    /// The object that a thread waits for by this reason.
+    pub fn object(self) -> Object
+        ensures { result ≡ waited_for self }
+    {
+        match self {
+            Reason::Lock(m) | Reason::Retake(m) => Object::Mutex(m),
+            Reason::Acquire(k) => Object::Semaphore(k),
+            Reason::Signal(c) => Object::Condition(c),
+        }
+    }
+}
+
+/// Where one thread is in a state of the program.
+#[derive(Clone, Copy, Debug)]
+pub struct ThreadState {
+    /// Whether the thread goes on, waits, ended or stopped.
+    pub status: Status,
+    /// The number of the instruction that the thread is at; at its end the length of its code.
+    pub instruction: usize,
+    /// The values of the thread's locals.
+    pub locals: [i64; LOCALS],
+    /// What the thread waits for; `None` where it is enabled, ended or stopped.
+    pub reason: Option<Reason>,
+    enabled: bool,
+}
+
+impl ThreadState {
+    /// The state of one thread in a state of the program: where it is, and what it waits for if it
+    /// is blocked.
+    pub fn of(state: &State, program: &Program, thread: u8) -> ThreadState
+        requires of { IsOf program.now state.now }
+        requires thread { thread < length program.now.threads }
+        ensures { Stands program.now state.now thread result }
+    {
+        ThreadState {
+            status: state.status(thread),
+            instruction: state.pc(thread),
+            locals: *state.locals(thread),
+            reason: reason_of(state, program, thread),
+            enabled: state.is_enabled(program, thread),
+        }
+    }
+
+    /// Whether the thread is enabled in the state.
+    pub fn is_enabled(&self) -> bool
+        ensures { result ≡ self.now.enabled }
+    {
+        self.enabled
+    }
+
+    /// Whether the thread has stopped in an error.
+    pub fn is_stopped(&self) -> bool
+        ensures { result ≡ is_stopped self.now.status }
+    {
+        matches!(self.status, Status::Stopped(_))
+    }
+}
+
+/// What a blocked thread waits for in a state; `None` for a thread that is enabled, has ended or
+/// has stopped.
+pub fn reason_of(state: &State, program: &Program, thread: u8) -> Option<Reason>
+    requires of { IsOf program.now state.now }
+    requires thread { thread < length program.now.threads }
+    ensures { MatchOption result (IsUnblocked program.now state.now thread)
+        (IsBlockedBy program.now state.now thread) }
+{
+    if let Status::Waiting(c) = state.status(thread) {
+        return Some(Reason::Signal(c as usize));
+    }
+    match state.next(program, thread)? {
+        Action::OnMutex(m, MutexAction::Lock) if state.owner(m).is_some() => Some(Reason::Lock(m)),
+        Action::OnMutex(m, MutexAction::Retake) if state.owner(m).is_some() => {
+            Some(Reason::Retake(m))
+        }
+        Action::OnSemaphore(k, SemaphoreAction::Acquire) if state.count(k) == 0 => {
+            Some(Reason::Acquire(k))
+        }
+        _ => None,
+    }
+}

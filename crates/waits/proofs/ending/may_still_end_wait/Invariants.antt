@@ -1,0 +1,11 @@
+use Rattle.std.proofs.Common.{◌≡◌, ℕ, ◌<◌, get_or}
+use Rattle.std.specs.Prelude.{IsTrue}
+use Rattle.guest_code.specs.declared.program.Instruction.TheVariants.{Skip}
+use Rattle.waits.specs.declared.fate.Fate.TheVariants.{Ahead, PassedBy}
+use Rattle.waits.specs.Endings.{could_end}
+use Rattle.waits.proofs.ending.may_still_end_wait.Given as goal
+
+abbrev pub invariant-loop-at : goal.invariant-loop-at
+invariant-loop-at l = (k : ℕ) → k < l.at →
+    IsTrue (could_end l.blocked l.other k (get_or l.code k (Skip 0))) →
+    ¬ (get_or l.fates k PassedBy ≡ Ahead)
