@@ -17,7 +17,7 @@ use std::marker::Model;
 /// The answer of [`Board::least`] where no number was told: no told number is above it.
 pub const NONE_TOLD: u64 = u64::MAX;
 
-// How many words a board's table has. Two are used, and 128 bytes before and behind these are left
+// How many words a board's table has. Two are used, and 128 bytes before and after these are left
 // alone: nothing else in memory shares a line of a cache with words that all threads write.
 const WORDS: usize = 34;
 
@@ -54,7 +54,7 @@ impl Model for Board {
 }
 
 impl Board {
-    /// A board of the numbers below `n`, and so many `seats` of the board.
+    /// A board of the numbers below `n`, and this many `seats` of the board.
     ///
     /// # Errors
     ///

@@ -53,7 +53,7 @@ impl Model for LendingBook {
 }
 
 impl LendingBook {
-    /// A book that lends its items to so many `workers`, of which none has an item yet.
+    /// A book that lends its items to this many `workers`, of which none has an item yet.
     ///
     /// # Errors
     ///

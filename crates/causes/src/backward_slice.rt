@@ -107,7 +107,7 @@ impl BackwardSlice {
     }
 
     // Whether an event, the next one to be taken, is a test on which the cause may depend: whether
-    // some later event of its thread is in the cause, and its instruction is not behind the one at
+    // some later event of its thread is in the cause, and its instruction is not after the one at
     // which the branches of the test merge.
     fn is_deciding_test(&self, program: &Program, event: &Event) -> bool
         requires { IsValidEvent program.now event.now }
@@ -301,7 +301,7 @@ fn lesser(least: Option<usize>, instruction: usize) -> usize
     }
 }
 
-// The number of the instruction at which the branches of a jump merge: the first behind all
+// The number of the instruction at which the branches of a jump merge: the first after all
 // instructions that the jump passes over, and that the jumps among those pass over. All jumps go
 // forwards.
 fn merge_point(code: &[Instruction], instruction: usize) -> usize

@@ -152,9 +152,9 @@ fn locks_again(alloc: Global, code: &[Instruction], at: usize) -> Result<bool, A
     Ok(marks[at].may_hold && !marks[at].may_not_hold)
 }
 
-// Whether some path from behind the instruction of number `at` leads to the end, or to an
+// Whether some path that begins after the instruction of number `at` leads to the end, or to an
 // instruction that is sure to do something that other threads may see, so that the local isn't
-// first given a value on it and then tested. Paths don't go on behind a `cas`, which tests by
+// first given a value on it and then tested. Paths don't go on after a `cas`, which tests by
 // itself.
 fn may_go_untested(
     alloc: Global,

@@ -84,7 +84,7 @@ impl Diagnostic {
     }
 
     /// The line and the column of the diagnostic; where it has no place, the greatest numbers,
-    /// which sort behind all places.
+    /// which sort after all places.
     pub fn place(&self) -> (u32, u32) {
         self.span
             .map_or((u32::MAX, u32::MAX), |span| (span.at.line, span.at.col))

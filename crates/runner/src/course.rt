@@ -47,7 +47,7 @@ pub(crate) fn preemptions_of(alloc: Global, item: &Item) -> Result<u32, ExploreE
     Ok(run.preemptions() as u32)
 }
 
-// The mode in which a search under a prefix with so many preemptions begins.
+// The mode in which a search under a prefix with this many preemptions begins.
 fn first_mode(search: Search, preemptions: u32) -> Mode
     ensures { result ≡ first_mode search preemptions }
 {

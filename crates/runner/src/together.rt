@@ -140,7 +140,7 @@ pub fn explore<G: Gate, R: Threads + Wait + Sync>(
     report_at_end(alloc, program, options, &course.book, ending)
 }
 
-// The last bound of a search, if a prefix with so many preemptions exceeds that bound.
+// The last bound of a search, if a prefix with this many preemptions exceeds that bound.
 fn exceeded_bound(search: Search, preemptions: u32) -> Option<u32>
     ensures past { IfSome result (λ last. (search ≡ UpTo last) × (last < preemptions)) }
     ensures within { IfNone result (IsModeOf search (first_mode search preemptions)) }

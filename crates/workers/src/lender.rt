@@ -54,7 +54,7 @@ pub(crate) struct Lender<N: SearchBrand> {
 }
 
 impl<N: SearchBrand> Lender<N> {
-    /// A lender of a book's open items, to so many `workers`.
+    /// A lender of a book's open items, to this many `workers`.
     ///
     /// # Errors
     ///
