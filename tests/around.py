@@ -20,13 +20,15 @@ import tempfile
 import time
 from pathlib import Path
 
+from simulator import PARTS
+
 ROOT = Path(__file__).resolve().parent.parent
 SHARE = ROOT / "share"
 SECONDS = 60
 
 # The classes of tokens, by the language's grammar.
 DECLARATIONS = "var mutex cond sem thread".split()
-STEPS = "load store add cas lock unlock wait signal broadcast acquire release".split()
+STEPS = [word for word, parts in PARTS.items() if "o" in parts]
 LOCALS = "set assert".split()
 CONTROLS = "if else repeat leave".split()
 TOKEN = re.compile(r"(?P<comment>#.*)|(?P<number>[0-9]+)|(?P<word>[A-Za-z_][A-Za-z0-9_]*)"

@@ -495,6 +495,9 @@ DEEP = [
     # in the last step of four
     ("var x;\nthread A { store x 1; store x 1; ^repeat 2 { load r x; if r { leave; } } }\n"
      "thread B { load s x; if s { store x 0; } }", 6, "warning W12 RanOut", "", []),
+    # in the last of three schedules, which is the last one allowed
+    ("var x;\nthread B { store x 1; }\nthread A { ^repeat 2 { load r x; if r { leave; } } }", 6,
+     "warning W12 RanOut", "", ["--limit", "3"]),
     # of two nested loops, the inner one
     ("var x;\nthread A { repeat 2 { ^repeat 2 { load r x; if r { leave; } } store x 1; leave; } }", 6,
      "warning W12 RanOut", "", []),
@@ -528,6 +531,9 @@ DEEP_CLEAN = [
     # the limit was reached: of two schedules, one comes to the assertion
     ("var x;\nthread A { load r x; if r == 1 { assert r == 1; } }\nthread B { store x 1; store x 2; }",
      ["W10", "W11", "W20"], ["--remarks", "--limit", "1"]),
+    # it runs out in the third schedule alone, which is one more than may be gone through
+    ("var x;\nthread B { store x 1; }\nthread A { repeat 2 { load r x; if r { leave; } } }", ["W12"],
+     ["--limit", "2"]),
 ]
 
 # A text with two warnings, the name of one, and comments that silence it and that don't.
@@ -827,7 +833,8 @@ def main():
         for text, names, options in DEEP_CLEAN:
             status, err = check.run(text.encode(), "--deep", *options)
             check.expect("%r" % text, status == 0 and not any(w in err for w in names), err)
-            check.expect("%r: the limit" % text, ("W21 CutShort after 1 schedule\n" in err) == ("--limit" in options), err)
+            cut = "W21 CutShort after %s schedule" % options[-1] in err if "--limit" in options else "W21" not in err
+            check.expect("%r: the limit" % text, cut, err)
         check.crowded()
         check.in_order()
         check.allowed()

@@ -7,8 +7,8 @@ Each edit in a crate's must-fail/ has a line `# says: ` on what it does, and a l
 refuses it. tests/wrong_bodies.txt has the wrong bodies that tests refuse, and the mistakes that are easy to make.
 This fails where an edit has no such line or can't be applied; where a row names nothing, or a test, an edit, a
 function or a clause that isn't there; where a table of the document names a definition, a function or a clause that
-the crates of its heading and its row haven't; and where docs/ARCHITECTURE.md leaves a file of definitions out. With
---list it prints all wrong bodies as tables.
+the crates of its heading and its row haven't; where a name of tests/surface.txt, on which others build, is gone; and
+where docs/ARCHITECTURE.md leaves a file of definitions out. With --list it prints all wrong bodies as tables.
 """
 import functools
 import re
@@ -177,6 +177,15 @@ def table_faults(text):
                         yield "docs/PROOFS.md names `%s`, which isn't there: %s" % (word, line[:60])
 
 
+def surface_faults():
+    """Which of the names that others build on their crates don't declare any more."""
+    for line in (ROOT / "tests/surface.txt").read_text(encoding="utf-8").split("\n"):
+        crate, parted, names = line.partition(": ")
+        if parted and not line.startswith("#"):
+            for name in set(names.split()) - declared(crate):
+                yield "%s of %s isn't there: others build on it" % (name, crate)
+
+
 def unlisted():
     """Which files of definitions docs/ARCHITECTURE.md leaves out, which says that it lists them all."""
     text = (ROOT / "docs/ARCHITECTURE.md").read_text(encoding="utf-8")
@@ -208,7 +217,7 @@ def main():
     by_tests = sum(len(found.get(kind, [])) for kind in (BOTH, ALONE))
     mistakes = sum(map(len, found.values())) - by_tests
     text = (ROOT / "docs/PROOFS.md").read_text(encoding="utf-8")
-    faults = [*edit_faults(), *row_faults(found), *table_faults(text), *unlisted()]
+    faults = [*edit_faults(), *row_faults(found), *table_faults(text), *surface_faults(), *unlisted()]
     for fault in faults:
         print(fault)
     print("%d edits, %d wrong bodies that a test refuses and %d mistakes: all that they and the documents name is there"

@@ -21,7 +21,7 @@ import subprocess
 import tempfile
 from pathlib import Path
 
-from simulator import FOLDERS, ROOT, Guest, Maker, Run, schedule_of
+from simulator import FOLDERS, PARTS, ROOT, Guest, Maker, Run, schedule_of
 
 COUNTS = (1, 7, 64, 1000)
 MOST_SCHEDULES = 400
@@ -29,7 +29,6 @@ MOST_STEPS = 30000
 DRAWN = 20
 TRIED_LINES = 60
 SECONDS = 60
-WRITES = {"add", "cas", "store", "lock", "unlock", "retake", "wait", "signal", "broadcast", "acquire", "release"}
 
 
 class TooMany(Exception):
@@ -43,11 +42,11 @@ def run_of(guest, schedule):
 
 
 def accesses(thread):
-    """The objects of a thread's next step, each with whether it is written."""
-    act = "retake" if thread.status == "woken" else thread.at.word
-    parts = thread.at.parts
-    names = {"wait": parts[:2], "load": parts[1:2], "add": parts[1:2], "cas": parts[1:2], "retake": parts[1:2]}
-    return {name: act in WRITES for name in names.get(act, parts[:1])}
+    """The objects of a thread's next step, each with whether it is written: a `load` alone writes none."""
+    names = [part for part, kind in zip(thread.at.parts, PARTS[thread.at.word]) if kind == "o"]
+    if thread.status == "woken":
+        names = names[1:]  # The mutex, which it takes again.
+    return {name: thread.at.word != "load" for name in names}
 
 
 def are_independent(run, t, u):

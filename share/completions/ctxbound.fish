@@ -38,7 +38,7 @@ complete -c ctxbound -n '__fish_seen_subcommand_from prefixes' -l unbounded -d '
 complete -c ctxbound -n '__fish_seen_subcommand_from join; and not __ctxbound_takes_a_guest' -F
 complete -c ctxbound -n '__fish_seen_subcommand_from join' -l unbounded -d 'Join parts of a search without a bound'
 complete -c ctxbound -n '__fish_seen_subcommand_from explore unbounded' -l under -x -d 'Run the schedules that begin with this one'
-complete -c ctxbound -n '__fish_seen_subcommand_from prefixes' -l at-least -x -d 'List at least so many'
+complete -c ctxbound -n '__fish_seen_subcommand_from prefixes' -l at-least -x -d 'List at least N, or all'
 complete -c ctxbound -n '__fish_seen_subcommand_from explain' -l steps -x -d 'Show each step of at most this number'
 complete -c ctxbound -n '__fish_seen_subcommand_from explain' -l all -d 'Show each step'
 complete -c ctxbound -n '__fish_seen_subcommand_from explain' -l width -x -d 'The columns of a line'

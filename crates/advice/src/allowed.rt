@@ -42,12 +42,12 @@ fn comment_of(line: &[u8]) -> &[u8]
     comment
 }
 
-// Whether a comment, as `# allow W6 W9`, allows the diagnostics of a number, as `W9`.
+// Whether a comment allows the diagnostics of a number, as `# allow W6 W9` allows those of `W9`.
 fn allows(comment: &[u8], number: &[u8]) -> bool
     ensures { result ≡ allows comment.now number.now }
 {
-    let (mark, rest) = first_word(comment);
-    let (allow, rest) = first_word(rest);
+    let (mark, rest) = split_first_word(comment);
+    let (allow, rest) = split_first_word(rest);
     mark == b"#".as_slice() && allow == b"allow".as_slice() && has_word(rest, number)
 }
 
@@ -58,15 +58,16 @@ fn is_in_word(byte: u8) -> bool
     !byte.is_ascii_whitespace()
 }
 
-// How many bytes of a text come before its first white space; all of them where it has none.
+// The length of the word that a text begins with: how many bytes come before the first white space,
+// or all if there is none.
 fn word_length(text: &[u8]) -> usize
     ensures { result ≡ prefix_len is_in_word text.now }
 {
     text.iter().take_while(|byte| is_in_word(**byte)).count()
 }
 
-// The first word of a text, without the white space before it, and the text after the word.
-fn first_word(text: &[u8]) -> (&[u8], &[u8])
+// Splits a text after its first word: that word, without the white space before it, and the rest.
+fn split_first_word(text: &[u8]) -> (&[u8], &[u8])
     ensures word { result.0.now ≡ word text.now }
     ensures after { result.1.now ≡ after_word text.now }
 {
@@ -74,7 +75,7 @@ fn first_word(text: &[u8]) -> (&[u8], &[u8])
     text.split_at(word_length(text))
 }
 
-// Whether a word is one of the words that white space divides a text into.
+// Whether a text, divided into words by white space, has this word.
 fn has_word(text: &[u8], word: &[u8]) -> bool
     ensures { result ≡ has_word text.now word.now }
 {
@@ -86,8 +87,8 @@ fn has_word(text: &[u8], word: &[u8]) -> bool
     false
 }
 
-// Whether a word of a text is at the index `at`: its bytes are, and white space or an end of the
-// text is on each side.
+// Whether a word of a text is at the index `at`: its bytes are there, and white space or an end of
+// the text is on each side.
 fn is_word_at(text: &[u8], word: &[u8], at: usize) -> bool
     requires { at < length text.now }
     ensures { result ≡ is_word_at text.now word.now at }

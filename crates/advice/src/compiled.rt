@@ -28,7 +28,7 @@ pub struct Compiled<'a> {
 }
 
 impl<'a> Compiled<'a> {
-    /// The code of the thread of a number; empty where there is no such thread.
+    /// The flat code of a thread, by its number; empty where there is no such thread.
     pub fn code(&self, thread: u8) -> &'a [Instruction] {
         if thread < self.program.threads() {
             self.program.code(thread)
@@ -37,8 +37,8 @@ impl<'a> Compiled<'a> {
         }
     }
 
-    /// The place in the text of a thread's instruction at an index; the start of the text where
-    /// there is no such instruction.
+    /// The place in the text of the statement that a thread's instruction at an index is of; the
+    /// start of the text where there is no such instruction.
     pub fn place(&self, thread: u8, at: usize) -> Pos {
         if thread < self.program.threads() && at < self.program.code(thread).len() {
             return self.map.place(thread, at);
@@ -46,7 +46,7 @@ impl<'a> Compiled<'a> {
         START
     }
 
-    /// The name of the thread of a number; empty where there is no such thread.
+    /// The name of a thread, by its number; empty where there is no such thread.
     pub fn thread_name(&self, thread: u8) -> &'a str {
         if thread < self.program.threads() {
             text_of(self.program.thread_name(thread))
@@ -55,17 +55,17 @@ impl<'a> Compiled<'a> {
         }
     }
 
-    /// The name of a thread's local of a number; empty where there is no such local.
+    /// The name of a thread's local, by their numbers; empty where there is no such local.
     pub fn local_name(&self, thread: u8, local: usize) -> &'a str {
         if thread < self.program.threads() && local < self.program.locals(thread) {
-            text_of(self.map.local(thread, local))
+            text_of(self.map.local_name(thread, local))
         } else {
             ""
         }
     }
 
-    /// Adds to `all` a diagnostic on the piece at a place, of this severity, and of this number and
-    /// name, as `W9 MayLack`; unless `all` has one with all of these and the same place.
+    /// Adds to `all` a diagnostic with this message on the piece at a place, of this severity, and
+    /// with this number and name, as `W9 MayLack`; unless `all` has one with these and this place.
     ///
     /// # Errors
     ///

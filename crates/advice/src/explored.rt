@@ -5,7 +5,7 @@ use guest_code::program::Instruction;
 use guest_syntax::place::Pos;
 use hints::message::Message;
 use hints::pieces::text_of;
-use lint::deep::explore;
+use lint::exploration::explore;
 use lint::seen::{Seen, ValuesSeen, values_with};
 use lint::uses::is_assert_zero;
 use messages::message::{Diagnostic, Severity};
@@ -53,8 +53,9 @@ impl Depth {
     }
 }
 
-// The values seen of an assertion, from those seen of two of its copies in the flat code.
-fn joined(first: ValuesSeen, second: ValuesSeen) -> ValuesSeen {
+// The values seen of an assertion, from those seen of two of its copies in the flat code. They are
+// the same only where those of both copies are the same, or one copy was never run.
+fn join_values(first: ValuesSeen, second: ValuesSeen) -> ValuesSeen {
     match (first, second) {
         (ValuesSeen::Unseen, values) | (values, ValuesSeen::Unseen) => values,
         (values, ValuesSeen::Same(left, right)) => values_with(values, left, right),
@@ -64,32 +65,33 @@ fn joined(first: ValuesSeen, second: ValuesSeen) -> ValuesSeen {
 
 impl Compiled<'_> {
     /// Explores schedules of the program, up to as many as the depth says, and adds to `all` the
-    /// diagnostics of what they show. Those of assertions are added only where all schedules that
-    /// sleep sets leave were explored; otherwise a remark says that the limit was reached.
+    /// diagnostics of what they show of signals, `repeat`s and assertions. Those of assertions are
+    /// added only where all schedules that sleep sets leave were explored; otherwise a remark says
+    /// that the limit was reached, whether remarks are wanted or not.
     ///
     /// # Errors
     ///
     /// `AllocError` where memory runs out.
-    pub fn add_explored(&self, depth: Depth, all: &mut Vec<Diagnostic>) -> Result<(), AllocError> {
+    pub fn explore_into(&self, depth: Depth, all: &mut Vec<Diagnostic>) -> Result<(), AllocError> {
         let alloc = *all.allocator();
         let spins = self.spins(alloc)?;
         let explored = explore(alloc, self.program, &spins, depth.limit)?;
-        self.add_signals(&explored.seen, all)?;
+        self.warn_of_signals(&explored.seen, all)?;
         for (spin, ran_out) in spins.iter().zip(&explored.seen.ran_out) {
             if let Some(path) = ran_out {
-                self.add_with_replay(all, RAN_OUT, spin.at, path)?;
+                self.warn_with_replay(all, RAN_OUT, spin.at, path)?;
             }
         }
         if explored.is_whole {
-            return self.add_assertions(&explored.seen, depth.remarks, all);
+            return self.diagnose_assertions(&explored.seen, depth.remarks, all);
         }
         all.push(depth.cut_short_remark(alloc)?)?;
         Ok(())
     }
 
-    // Adds a warning of this number and name, with this text, on the statement at a place. A note
-    // says which schedule to replay to see it: that of the threads in `path`.
-    fn add_with_replay(
+    // Adds to `all` a warning of this number and name, with the text `said`, on the statement at a
+    // place. A note has a schedule that shows what is warned of: that of the threads in `path`.
+    fn warn_with_replay(
         &self,
         all: &mut Vec<Diagnostic>,
         (name, said): (&str, &str),
@@ -103,21 +105,22 @@ impl Compiled<'_> {
         self.add_diagnostic(all, (Severity::Warning, name), at, message)
     }
 
-    // Adds a warning for each `signal` of a condition for which several threads waited in some
-    // schedule.
-    fn add_signals(&self, seen: &Seen, all: &mut Vec<Diagnostic>) -> Result<(), AllocError> {
+    // Adds to `all` a warning for each `signal` of a condition for which several threads waited in
+    // some schedule.
+    fn warn_of_signals(&self, seen: &Seen, all: &mut Vec<Diagnostic>) -> Result<(), AllocError> {
         for thread in 0..self.program.threads() {
             for (i, instruction) in seen.instructions_of(thread).iter().enumerate() {
                 if let Some(path) = &instruction.signal_to_many {
-                    self.add_with_replay(all, SIGNAL_TO_MANY, self.place(thread, i), path)?;
+                    self.warn_with_replay(all, SIGNAL_TO_MANY, self.place(thread, i), path)?;
                 }
             }
         }
         Ok(())
     }
 
-    // Adds the warnings of the program's assertions, and the remarks on them if `remarks` is true.
-    fn add_assertions(
+    // Adds to `all` the warnings of the program's assertions, and the remarks on them if `remarks`
+    // is true: one for all copies of an assertion in the flat code, and none for an `assert 0;`.
+    fn diagnose_assertions(
         &self,
         seen: &Seen,
         remarks: bool,
@@ -127,7 +130,7 @@ impl Compiled<'_> {
             for i in 0..self.code(thread).len() {
                 if self.is_first_assert(thread, i) {
                     let at = self.place(thread, i);
-                    self.add_assertion(self.values_seen_at(seen, thread, at), at, remarks, all)?;
+                    self.diagnose_assertion(self.seen_at(seen, thread, at), at, remarks, all)?;
                 }
             }
         }
@@ -148,22 +151,22 @@ impl Compiled<'_> {
 
     // What was seen of the assertion at a place, of all its copies in the flat code of the thread:
     // its values, and whether it held in some schedule.
-    fn values_seen_at(&self, seen: &Seen, thread: u8, at: Pos) -> (ValuesSeen, bool) {
+    fn seen_at(&self, seen: &Seen, thread: u8, at: Pos) -> (ValuesSeen, bool) {
         let mut values = ValuesSeen::Unseen;
         let mut has_held = false;
         for (i, instruction) in seen.instructions_of(thread).iter().enumerate() {
             if self.place(thread, i) == at {
-                values = joined(values, instruction.values);
+                values = join_values(values, instruction.values);
                 has_held = has_held || instruction.has_held;
             }
         }
         (values, has_held)
     }
 
-    // Adds the diagnostic, if any, of the assertion at a place, by the values seen and by whether
-    // it held in some schedule: that it is never run, that it never holds, or a remark, if
+    // Adds to `all` the diagnostic, if any, of the assertion at a place, by the values seen and by
+    // whether it held in some schedule: that it is never run, that it never holds, or a remark, if
     // `remarks` is true, that it always has the same values.
-    fn add_assertion(
+    fn diagnose_assertion(
         &self,
         (values, has_held): (ValuesSeen, bool),
         at: Pos,

@@ -30,7 +30,8 @@ enum Subject {
     Object(NameKind),
 }
 
-// What the warnings of a kind are about, and of which thread.
+// What the warnings of a kind are about: locals of a thread, told where a use of this sort is made
+// of them, instructions of a thread, or objects of a kind.
 fn subject_of(kind: WarningKind) -> Subject {
     match kind {
         WarningKind::NeverSet(thread) => Subject::Local(thread, Use::Reads),
@@ -80,9 +81,9 @@ impl Compiled<'_> {
         found.map_or(at, |piece| piece.at)
     }
 
-    // A warning with its place: that of the name, for a local, of the statement, for an
-    // instruction, or of the declared name, for an object.
-    fn finding_of(&self, warning: Warning) -> Finding {
+    // A warning with its place: for a local that of its name in a statement, for an instruction
+    // that of its statement, and for an object that of its declared name.
+    fn locate(&self, warning: Warning) -> Finding {
         let number = warning.number;
         let at = match subject_of(warning.kind) {
             Subject::Local(thread, use_) => {
@@ -119,7 +120,7 @@ impl Compiled<'_> {
     pub fn add_warnings(&self, all: &mut Vec<Diagnostic>) -> Result<(), AllocError> {
         let alloc = *all.allocator();
         let warnings = all_warnings(alloc, self.program)?;
-        let found: Vec<Finding> = warnings.iter().map(|w| self.finding_of(*w)).collect(alloc)?;
+        let found: Vec<Finding> = warnings.iter().map(|w| self.locate(*w)).collect(alloc)?;
         for finding in &found {
             if self.is_reported(&found, *finding) {
                 let message = self.warning_message(alloc, finding.warning)?;

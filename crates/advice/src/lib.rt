@@ -1,7 +1,7 @@
 //! What is wrong with a text, or odd about it, told to a person.
 //!
 //! - [`check`] answers why a text is refused, or the warnings of its program: a text is refused
-//!   exactly where it spells no tree or its tree has a fault, and the short form and the place are
+//!   exactly where it doesn't parse or its tree has a fault, and the short form and the place are
 //!   those of the refusal.
 //! - The warnings are those of `lint`; here they get their places and their words. With a depth, it
 //!   is also told what `lint` saw in schedules of the program.
@@ -92,8 +92,8 @@ pub fn check(alloc: Global, text: &[u8], depth: Option<Depth>) -> Result<Checked
     }
 }
 
-// What a check finds where the text spells no tree: that it is refused, with the diagnostic on this
-// error. Fails where the error is that memory ran out, or where memory runs out.
+// What a check finds where the parser refuses the text with this error: the diagnostic on it. Fails
+// where the error is that memory ran out, or where memory runs out.
 fn syntax_refusal(alloc: Global, text: &[u8], error: SyntaxError) -> Result<Checked, AllocError>
     requires refused { error ≢ syntax.OutOfMemory → (t : Tree) → Spells text.now t → ⊥ }
     requires place { RefusalIn start text.now error }
@@ -108,8 +108,8 @@ fn syntax_refusal(alloc: Global, text: &[u8], error: SyntaxError) -> Result<Chec
     }
 }
 
-// What a check finds where the tree of the text is no program: that the text is refused, with the
-// diagnostic on this error. Fails where the error is that memory ran out, or where it runs out.
+// What a check finds where the tree of a text is no program, for this error: the diagnostic on it.
+// Fails where the error is that memory ran out, or where memory runs out.
 fn check_refusal(
     alloc: Global,
     text: &[u8],
@@ -129,8 +129,8 @@ fn check_refusal(
     }
 }
 
-// What a check finds where the text spells this tree: why it is refused, or what is odd about its
-// program. With a depth, what schedules of the program show, too.
+// What a check finds in a text with this tree: why it is refused, or what is odd about its program.
+// With a depth, schedules are explored as well, and it is also told what they show.
 fn check_tree(
     alloc: Global,
     text: &[u8],
@@ -150,7 +150,7 @@ fn check_tree(
 }
 
 // The warnings and remarks on the program of a tree, in the order of the text, without those that a
-// comment of their line allows.
+// comment of their line allows. With a depth, also those on what schedules of the program show.
 fn all_diagnostics(
     alloc: Global,
     text: &[u8],
@@ -174,7 +174,7 @@ fn all_diagnostics(
     let mut all = Vec::new(alloc);
     compiled.add_warnings(&mut all)?;
     if let Some(depth) = depth {
-        compiled.add_explored(depth, &mut all)?;
+        compiled.explore_into(depth, &mut all)?;
     }
     all.retain(|diagnostic| !is_allowed(text, diagnostic));
     all.sort_by_key(|diagnostic| diagnostic.place())?;

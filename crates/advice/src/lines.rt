@@ -9,9 +9,9 @@ use messages::message::{Diagnostic, Span, put_shown};
 use std::alloc::AllocError;
 use text_lines::Marks;
 
-// Adds a row `FILE:LINE:COLUMN:`: the file and line that the line of a span comes from, as a
-// preprocessor's mark tells, and the span's column. Adds nothing where there is no span, or no mark
-// that tells it.
+// Adds to `out` a row `FILE:LINE:COLUMN:`: the file and line that the line of a span comes from, as
+// a preprocessor's mark in the text tells, and the span's column. Adds nothing where there is no
+// span, or where none of these `marks` tells them.
 fn put_origin(out: &mut Vec<u8>, marks: &Marks, span: Option<Span>) -> Result<(), AllocError>
     ensures { Puts result out.old out.new (origin_row (origins_in marks.now) span) }
 {
@@ -26,8 +26,8 @@ fn put_origin(out: &mut Vec<u8>, marks: &Marks, span: Option<Span>) -> Result<()
     out.extend_from_slice(place.as_bytes())
 }
 
-/// Adds the lines to print of a diagnostic on a text, and above them a row with the file and line
-/// that its source line comes from, where a preprocessor's mark tells them.
+/// Adds to `out` the lines to print of a diagnostic on a text, and above them a row with the file
+/// and line that its source line comes from, where the `marks` of a preprocessor tell them.
 ///
 /// # Errors
 ///
@@ -45,8 +45,8 @@ pub fn put_diagnostic(
     diagnostic.put(out, text)
 }
 
-/// Adds the lines to print of several diagnostics on a text, in order, each as [`put_diagnostic`]
-/// does.
+/// Adds to `out` the lines to print of several diagnostics on a text, in order, and above those of
+/// each the file and line it comes from, where the `marks` of a preprocessor tell them.
 ///
 /// # Errors
 ///

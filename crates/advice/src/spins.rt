@@ -4,7 +4,7 @@ use crate::compiled::Compiled;
 use guest_code::program::Instruction;
 use guest_syntax::pieces::Piece;
 use guest_syntax::place::Pos;
-use hints::pieces::{closing_piece, is_before, piece_index_at};
+use hints::pieces::{closing_index, is_before, piece_index_at};
 use lint::spin::Spin;
 use std::alloc::{AllocError, Global};
 
@@ -16,15 +16,15 @@ struct Block {
     close: Pos,
 }
 
-// The block of the `repeat` at the index `keyword` of the pieces, if the later index `inside` is
-// before the block's end. `None` if it isn't, or if the piece at `keyword` is no `repeat`.
+// The block of the `repeat N {` whose first piece is at the index `keyword`, if the piece at the
+// later index `inside` comes before the block's end. `None` if not, or if no `repeat` is there.
 fn block_around(pieces: &[Piece<'_>], keyword: usize, inside: usize) -> Option<Block> {
     let repeat = pieces.get(keyword)?;
     if !matches!(repeat.text, b"repeat") {
         return None;
     }
     let open = keyword.saturating_add(2);
-    let close = closing_piece(pieces, open).filter(|close| inside < *close)?;
+    let close = closing_index(pieces, open).filter(|close| inside < *close)?;
     Some(Block {
         keyword: repeat.at,
         open: pieces.get(open)?.at,
@@ -45,8 +45,8 @@ fn block_of_leave(pieces: &[Piece<'_>], at: Pos) -> Option<Block> {
 }
 
 impl Compiled<'_> {
-    // For each instruction of a thread, whether it is in a block, but no `leave` that leaves the
-    // block.
+    // For each instruction of a thread, whether it is in `block`, that of a `repeat`. A `leave` of
+    // it counts as outside: a loop that ends by one hasn't run out of turns (`Spin::runs_out`).
     fn in_block(&self, alloc: Global, thread: u8, block: Block) -> Result<Vec<bool>, AllocError> {
         let is_inside = |at: usize| {
             let place = self.place(thread, at);
@@ -58,8 +58,8 @@ impl Compiled<'_> {
         (0..self.code(thread).len()).map(is_inside).collect(alloc)
     }
 
-    // Adds to `spins` the loops of a thread that a `leave` may end: each copy in its flat code of a
-    // `repeat` that has a `leave`. One inside another `repeat` has several copies.
+    // Adds to `spins` the loops of a thread that a `leave` may end: once each copy in its flat code
+    // of a `repeat` that has a `leave`. One inside another `repeat` has several copies.
     fn add_spins(
         &self,
         alloc: Global,

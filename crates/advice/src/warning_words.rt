@@ -2,16 +2,16 @@
 
 use crate::compiled::Compiled;
 use guest_code::limits::LOCALS;
-use hints::declared::Nearest;
 use hints::message::Message;
+use hints::names::Nearest;
 use lint::uses::Use;
 use lint::warning::{Warning, WarningKind};
 use std::alloc::{AllocError, Global};
 
-// The number and name of the warnings of a kind, and what is said of them: `NUMBER NAME: WORDS`. Of
-// warnings on what a thread does with a mutex, the words are to follow the name of the thread. Of
-// those on locals, there are the number and name alone: what is said has the name of the local.
-fn words_of(kind: WarningKind) -> &'static str {
+// The number and name of the warnings of a kind, and after `: ` their message. Those of W8, W9 and
+// W15 lack their subject, the name of a thread, which the caller writes before them. W1 and W2 have
+// none here, as theirs says the name of the local.
+fn titled_words(kind: WarningKind) -> &'static str {
     match kind {
         WarningKind::NeverSet(_) => "W1 NeverSet",
         WarningKind::NeverRead(_) => "W2 NeverRead",
@@ -46,11 +46,11 @@ fn words_of(kind: WarningKind) -> &'static str {
     }
 }
 
-/// The number and name of the warnings of a kind, as `W9 MayLack`, and what is said of them. Of
-/// warnings on what a thread does with a mutex, that is to follow the name of the thread; of those
-/// on locals it is empty, as the message has to name the local.
+/// The number and name of the warnings of a kind, as `W9 MayLack`, and their message. Those of W8,
+/// W9 and W15 lack their subject, the name of a thread, which has to be written before them; those
+/// of W1 and W2 are empty, as their message says the name of the local.
 pub fn title_and_words(kind: WarningKind) -> (&'static str, &'static str) {
-    let words = words_of(kind);
+    let words = titled_words(kind);
     words.split_once(": ").unwrap_or((words, ""))
 }
 
@@ -84,8 +84,8 @@ impl<'a> Compiled<'a> {
         }
     }
 
-    // The message on a local of a thread that no statement gives a value, with a note on what may
-    // be meant instead.
+    // The message on a local of a thread that no statement gives a value, with a note on what to
+    // write for `true` or `false`, or else on which local may be meant, if its name is near.
     fn unset_local_message(
         &self,
         alloc: Global,
@@ -102,8 +102,8 @@ impl<'a> Compiled<'a> {
         }
     }
 
-    // The name nearest to a given one, among those of the thread's locals that get a value; `None`
-    // where none is near, as `near_distance` in `hints` says.
+    // The name nearest to this one, among those of the thread's locals that get a value; `None`
+    // where none is near, as `hints::names::near_distance` says.
     fn nearest_local(
         &self,
         alloc: Global,

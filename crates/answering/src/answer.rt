@@ -31,7 +31,7 @@ pub struct Printed {
 }
 
 impl Printed {
-    /// What is printed of a report: its text, a line feed, and the status of its verdict.
+    /// What is printed of a report, its text and a line feed; and the status of its verdict.
     ///
     /// # Errors
     ///
@@ -82,7 +82,8 @@ pub fn replay_status(kind: Option<Kind>) -> u8
 }
 
 /// Searches the program that `text` spells, by as many workers as `exploration` says: the report, a
-/// line feed, and the status of its verdict.
+/// line feed, and the status of its verdict. If `exploration` asks for progress, it is told on
+/// standard error.
 ///
 /// # Errors
 ///
@@ -156,8 +157,10 @@ impl Model for Answer {
 }
 
 impl Answer {
-    /// The answer to a request. `given` is the text of the guest program, or why it wasn't read.
-    pub fn new<R: Threads + Wait + Sync + Eprint>(
+    /// The answer to a request, after doing what it asks: the search or the replay is run here.
+    /// `given` is the text of the guest program, or why it wasn't read: then that fault is the
+    /// answer.
+    pub fn of_request<R: Threads + Wait + Sync + Eprint>(
         rt: &R,
         alloc: Global,
         request: &GuestRequest,
@@ -180,7 +183,7 @@ impl Answer {
         Answer { result }
     }
 
-    /// The bytes for standard output.
+    /// The bytes for standard output; none where the answer is a fault.
     pub fn output(&self) -> &[u8]
         ensures { result.now ≡ self.now.output }
     {

@@ -36,7 +36,7 @@ pub struct Exploration {
 }
 
 impl Default for Exploration {
-    /// The search up to [`DEFAULT_BOUND`] preemptions, by one worker.
+    /// The search up to [`DEFAULT_BOUND`] preemptions by one worker, with no limit and no progress.
     fn default() -> Exploration {
         Exploration {
             options: Options::new(Search::UpTo(DEFAULT_BOUND)),

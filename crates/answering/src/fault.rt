@@ -35,7 +35,8 @@ pub enum Fault {
 }
 
 impl Fault {
-    /// The status that the program ends with: 2 for what the user gave, 4 for memory and devices.
+    /// The status that the program ends with: 2 where what the user gave is refused, 4 where memory
+    /// ran out, or a file or a stream failed.
     pub fn status(&self) -> u8
         ensures { result ≡ fault_status self.now }
     {
@@ -67,14 +68,14 @@ impl Fault {
     }
 }
 
-/// The message for the user, after the name of the program: the kind of fault, the number and the
-/// name of a refusal, and its place.
 impl fmt::Display for Fault {
     ghost use Rattle.std.specs.Prelude.{Some};
     ghost use Rattle.answering.specs.Lines.{fault_text};
 
     ghost output = { λ fault. Some (fault_text fault) };
 
+    // The message for the user, to follow the name of the program: the word `file` or `memory`, or
+    // the message of a refusal, which has its number, its name and its place.
     fn fmt<W: fmt::Write>(&self, f: &mut fmt::Formatter<W>) -> fmt::Result {
         match self {
             Fault::File => write!(f, "file"),
@@ -140,7 +141,7 @@ impl From<ReplayError> for Fault {
 
     ghost from_gives = { λ e fault. fault ≡ of_replay e };
 
-    // Out of memory is the fault `Memory`, else a step of the schedule is refused.
+    // Out of memory is the fault `Memory`, else a step of the schedule can't be taken.
     fn from(error: ReplayError) -> Fault {
         match error {
             ReplayError::OutOfMemory => Fault::Memory,
@@ -155,7 +156,7 @@ impl From<ExploreError> for Fault {
 
     ghost from_gives = { λ e fault. fault ≡ of_explore e };
 
-    // The fault of the text or of the program that the error has, or `Memory`.
+    // The fault of the text or of the program, as the error says; out of memory is `Memory`.
     fn from(error: ExploreError) -> Fault {
         match error {
             ExploreError::Syntax(error) => Fault::from(error),
@@ -193,7 +194,7 @@ impl From<io::Error> for Fault {
 
     ghost from_gives = { λ e fault. IsDeviceFault (error_kind e) fault };
 
-    // Out of memory is the fault `Memory`, each other error of a device the fault `File`.
+    // Out of memory is the fault `Memory`, each other error of a file or stream the fault `File`.
     fn from(error: io::Error) -> Fault {
         match error.kind() {
             ErrorKind::OutOfMemory => Fault::Memory,
@@ -215,7 +216,7 @@ pub enum CommandFault<'a> {
 
 impl CommandFault<'_> {
     /// Writes the fault's line to `err`, and answers the fault's status, whether or not `err`
-    /// fails.
+    /// fails. A device that failed because memory ran out isn't named: that is the fault `Memory`.
     pub fn report<E: Write>(&self, err: &mut E) -> u8 {
         match self {
             CommandFault::Fault(fault) => fault.report(err),
@@ -238,7 +239,7 @@ impl<X> From<X> for CommandFault<'_>
 where
     Fault: From<X>,
 {
-    // The fault that the error becomes, with no device named.
+    // The fault that the error becomes, which names no file and no stream.
     fn from(error: X) -> Self {
         CommandFault::Fault(Fault::from(error))
     }

@@ -10,6 +10,8 @@ use std::sync::atomic::{AtomicU64, Ordering};
 struct GroupedNumber(u64);
 
 impl fmt::Display for GroupedNumber {
+    // The digits of the number in groups of three, with commas between them: a `u64` has at most
+    // seven groups. The first is shown without leading zeros.
     fn fmt<W: fmt::Write>(&self, f: &mut fmt::Formatter<W>) -> fmt::Result {
         let groups = [
             self.0 / 1_000_000_000_000_000_000,
@@ -34,6 +36,8 @@ impl fmt::Display for GroupedNumber {
 struct ProgressLine(Progress);
 
 impl fmt::Display for ProgressLine {
+    // How far a search is: its bound, how many schedules were tried, how many of them are bad, how
+    // many items are open, and, where a next bound may follow, how many prefixes are deferred.
     fn fmt<W: fmt::Write>(&self, f: &mut fmt::Formatter<W>) -> fmt::Result {
         let progress = self.0;
         match progress.bound {
@@ -65,7 +69,7 @@ pub struct ProgressGate<'a, R> {
 }
 
 impl<'a, R> ProgressGate<'a, R> {
-    /// A gate that stops nobody, and tells how far a search is where `is_asked`.
+    /// A gate that lets every worker go on, and prints the search's progress where `is_asked`.
     pub fn new(rt: &'a R, is_asked: bool) -> ProgressGate<'a, R> {
         ProgressGate {
             rt,
@@ -87,7 +91,8 @@ impl<R: Eprint + Sync> Gate for ProgressGate<'_, R> {
     }
 
     // Tells how far the search is, where that was asked for: once it is at a new bound, and once
-    // twice as many schedules were tried as when it told last.
+    // twice as many schedules were tried as when it told last. `told` keeps a bound as itself plus
+    // two, and no bound as 1, since 0 stands for no line yet.
     fn round_ended(&self, progress: Progress) {
         let bound = progress.bound.map_or(1, |bound| u64::from(bound) + 2);
         let is_new = self.told.swap(bound, Ordering::SeqCst) != bound;

@@ -29,9 +29,10 @@ pub enum Request {
 }
 
 impl Request {
-    /// The name of the guest program's file, of a request after which a person is told, where the
-    /// text is refused, that `ctxbound check` says more. `None` of a check, a suite and a `verify`.
-    pub fn guest_file(&self) -> Option<&str> {
+    /// The name of the guest program's file, for the hint that `ctxbound check` says more, which is
+    /// given where its text is refused. `None` for the commands that give no such hint: `check`,
+    /// `suite` and `verify`.
+    pub fn file_to_check(&self) -> Option<&str> {
         let file = match self {
             Request::Guest { file, .. } => file,
             Request::Explain(request, _) => &request.file,
@@ -87,7 +88,7 @@ pub struct CheckRequest {
     pub strict: bool,
     /// How many schedules are gone through at most for deeper warnings, where these are asked for.
     pub depth: Option<u64>,
-    /// Whether deeper warnings also tell what need not be wrong.
+    /// Whether remarks, on what need not be wrong, are told along with deeper warnings.
     pub remarks: bool,
     pub form: CheckForm,
 }
@@ -97,9 +98,9 @@ pub struct CheckRequest {
 pub enum CheckForm {
     /// In lines for people, with the source.
     Lines,
-    /// In a line for each refusal and each warning.
+    /// In a line for each refusal, warning and remark.
     Short,
-    /// In a JSON object for each refusal and each warning.
+    /// In a JSON object for each refusal, warning and remark.
     Json,
 }
 

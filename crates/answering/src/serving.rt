@@ -19,8 +19,8 @@ use std::{fs, io};
 /// The name of standard output in a fault's line.
 pub const STANDARD_OUTPUT: &str = "standard output";
 
-// Reads the text of a guest program from `input`; of a text that is too long, one byte more than a
-// program may have.
+// Reads the text of a guest program from `input`: at most one byte more than a program may have,
+// which is enough to see that a text is too long.
 fn read_text<R: Read>(alloc: Global, input: &mut R) -> io::Result<Vec<u8>>
     ensures { IfOk result (λ text. IfSome (R.remaining input.old) (IsPartRead text.items)) }
 {
@@ -46,11 +46,12 @@ pub fn write_out<W: Write>(out: &mut W, output: &[u8]) -> io::Result<()>
 }
 
 /// Does what `request` asks of the guest program whose text `input` gives. What the answer has for
-/// standard output is written to `out`, a fault's line to `err`. Answers the answer's status.
+/// standard output is written to `out`, a fault's line to `err`. Answers the status, also where
+/// `err` can't be written.
 ///
 /// # Errors
 ///
-/// The fault of the device where the input can't be read or the output can't be written.
+/// `File` where input can't be read or output can't be written, `Memory` where memory runs out.
 pub fn serve<H, R: Read, W: Write, E: Write>(
     rt: &H,
     request: &GuestRequest,
@@ -66,14 +67,14 @@ where
 {
     let alloc = rt.alloc();
     let text = read_text(alloc, input)?;
-    let answer = Answer::new(rt, alloc, request, Ok(text));
+    let answer = Answer::of_request(rt, alloc, request, Ok(text));
     write_out(out, answer.output())?;
     let _ = answer.write_error(err);
     Ok(answer.status())
 }
 
-/// The status that the program ends with: the answer's, where [`serve`] answered it. Where a
-/// device failed the fault's line is written to `err`, and the status is the fault's.
+/// The status that the program ends with: the one that [`serve`] answered, or that of a fault,
+/// whose line is then written to `err`.
 pub fn exit_status<E: Write>(served: Result<u8, Fault>, err: &mut E) -> u8
     ensures { MatchResult served (λ status. result ≡ status)
         (λ fault. result ≡ fault_status fault) }
@@ -84,13 +85,14 @@ pub fn exit_status<E: Write>(served: Result<u8, Fault>, err: &mut E) -> u8
     }
 }
 
-/// Whether a word in the place of a file stands for standard input.
+/// Whether the name of a file is `-`, which stands for standard input.
 pub fn is_standard_input(file: &str) -> bool {
     file == "-"
 }
 
-/// Does what `request` asks of the guest program in a file, as [`serve`] does: writes what is
-/// printed to `out`, a fault's line to `err`. Answers the status that the program ends with.
+/// Does what `request` asks of the guest program in a file, or on standard input where `file` is
+/// `-`: writes what is printed to `out`, a fault's line to `err`. Answers the status that the
+/// program ends with.
 pub fn serve_file<H, W: Write, E: Write>(
     rt: &H,
     file: &str,
@@ -112,8 +114,8 @@ where
     exit_status(served, err)
 }
 
-/// The text of the guest program in a file or on standard input; of a text that is too long, one
-/// byte more than a program may have.
+/// The text of the guest program in a file, or on standard input where `file` is `-`: at most one
+/// byte more than a program may have, which is enough to see that a text is too long.
 ///
 /// # Errors
 ///
@@ -125,7 +127,7 @@ where
     read_bytes(rt, file, TEXT_BYTES as u64 + 1)
 }
 
-/// The first bytes of a file or of standard input, at most `most` of them.
+/// The first bytes of a file, or of standard input where `file` is `-`, at most `most` of them.
 ///
 /// # Errors
 ///
@@ -143,8 +145,8 @@ where
     Ok(bytes)
 }
 
-/// Writes to `out` what a command prints, or, where it prints nothing, to `err` the line that says
-/// why. Answers the status that the program ends with.
+/// Writes to `out` what a command prints, or, where it prints nothing or `out` can't be written, to
+/// `err` the line that says why. Answers the status that the program ends with.
 pub fn write_printed<W: Write, E: Write>(
     printed: Result<Printed, CommandFault<'_>>,
     out: &mut W,

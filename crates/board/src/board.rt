@@ -1,4 +1,5 @@
-//! Boards: the numbers below a limit, each drawn by one seat, and the least number told.
+//! Boards: numbers below a limit, each drawn by one seat at most, and the least number that was
+//! told.
 
 ghost use Rattle.std.specs.Prelude.{◌≡◌, ◌≤◌, true, vec_len, IfOk, IfSome, IfNone, ◌<◌};
 ghost use Rattle.std.specs.List.{All};
@@ -8,27 +9,28 @@ ghost use Rattle.board.specs.Claims.{IsLeastTold, IsSomeTold, drawn_by, told_by,
 
 use crate::account::{Account, Size};
 use crate::claims::Claims;
-use crate::rule::{Asking, BoardRule, Claiming, Closing, Counting, Seating, Telling};
+use crate::rule::{Asking, BoardRule, Claiming, ReadingCount, ReadingLeast, Seating, Telling};
 use crate::seat::Seat;
 use atomic_table::Table;
 use std::alloc::{AllocError, Global};
 use std::marker::Model;
 
-/// The answer of [`Board::least`] where no number was told: no told number is above it.
+/// The answer of [`Board::least`] where no number was told: no told number is greater.
 pub const NONE_TOLD: u64 = u64::MAX;
 
-// How many words a board's table has. Two are used, and 128 bytes before and after these are left
-// alone: nothing else in memory shares a line of a cache with words that all threads write.
+// How many words a board's table has. Two are used; the 128 bytes before and after them are not, so
+// that nothing else in memory shares a line of a cache with words that all threads write.
 const WORDS: usize = 34;
 
-// The place of the table's word of the numbers drawn: how many, and one more for each marked seat.
+// The index of the word that counts the calls to draw: how many numbers are drawn, and one more for
+// each seat that was answered that none is left.
 const DRAWN: usize = 16;
 
-// The place of the table's word of the least number told.
+// The index of the word with the least number told.
 const LEAST: usize = 17;
 
-/// A board of numbers to draw, and of the least number told, which threads share by a `&`. A
-/// contract sees which board it is, the limit of its numbers, and how many seats were made with it.
+/// A board that threads share by a `&`: numbers to draw, as from a ticket dispenser, and the least
+/// of the numbers told. A contract sees which board it is, its limit and how many seats it has.
 #[derive(Drop)]
 pub struct Board {
     table: Table<(), Account, Size, BoardRule, Global>,
@@ -54,7 +56,7 @@ impl Model for Board {
 }
 
 impl Board {
-    /// A board of the numbers below `n`, and this many `seats` of the board.
+    /// A board of the numbers below `n`, none drawn yet, and all its seats: `seats`, at least one.
     ///
     /// # Errors
     ///
@@ -91,8 +93,9 @@ impl Board {
         Ok((board, all))
     }
 
-    /// Draws a number for a seat: the least one that no seat drew. None where all are drawn: the
-    /// seat is marked then, and from now on None is answered without a step on the table.
+    /// Draws a number for a seat: the least one that no seat drew. `None` where all are drawn. The
+    /// seat is marked then: it is answered `None` from then on without a look at the board, so that
+    /// it adds to the count past the limit only once.
     pub fn claim(&self, seat: &mut Seat) -> Option<u64>
         requires { seat.old.board ≡ self.now.id }
         ensures some { IfSome result (λ k. Draws seat.old k seat.new) }
@@ -113,7 +116,7 @@ impl Board {
         }
     }
 
-    /// Tells a seat's number `k` to all seats: [`Board::least`] answers the least number told.
+    /// Tells the number `k` to all seats: [`Board::least`] answers the least number told.
     pub fn tell(&self, seat: &mut Seat, k: u64)
         requires { seat.old.board ≡ self.now.id }
         ensures { seat.new ≡ with_told seat.old k }
@@ -123,7 +126,7 @@ impl Board {
             .fetch_min::<Telling>(&mut seat.inner, LEAST, k);
     }
 
-    /// The least number that any seat told so far, or [`NONE_TOLD`].
+    /// The least number that any seat has told so far; [`NONE_TOLD`] where none was told.
     pub fn least(&self, seat: &mut Seat) -> u64
         requires { seat.old.board ≡ self.now.id }
         ensures { IsAnswered seat.old result seat.new }
@@ -131,7 +134,8 @@ impl Board {
         self.table.shared.load::<Asking>(&mut seat.inner, LEAST)
     }
 
-    /// Ends a board, given all its seats: answers what was drawn and told on the board.
+    /// Ends a board, and takes all its seats: answers how many numbers were drawn, and the least
+    /// number told. The count in the table may be past the limit: each marked seat added one.
     pub fn gather(self, mut seats: Vec<Seat>) -> Claims
         requires board { All (λ s. s.board ≡ self.id) seats.items }
         requires all { vec_len seats ≡ self.seats }
@@ -155,8 +159,8 @@ impl Board {
             let Seat { inner, .. } = seat;
             shared.join_seat::<Seating>(&mut first, inner);
         }
-        let found = shared.load::<Counting>(&mut first, DRAWN);
-        let least = shared.load::<Closing>(&mut first, LEAST);
+        let found = shared.load::<ReadingCount>(&mut first, DRAWN);
+        let least = shared.load::<ReadingLeast>(&mut first, LEAST);
         Claims {
             count: found.min(limit),
             least,

@@ -1,10 +1,10 @@
-//! What is known of a board when all its seats are done.
+//! What is known of a board at its end, when it has all its seats back.
 
 ghost use Rattle.std.specs.Prelude.{◌≡◌};
 
 use std::marker::Model;
 
-/// What was drawn and told on a board.
+/// How many numbers of a board were drawn, and the least that was told.
 #[derive(Debug, Drop)]
 pub struct Claims {
     pub(crate) count: u64,
@@ -20,14 +20,14 @@ impl Model for Claims {
 }
 
 impl Claims {
-    /// How many numbers were drawn: just those below this count.
+    /// How many numbers were drawn: these are the numbers below this count.
     pub fn count(&self) -> u64
         ensures { result ≡ self.now.count }
     {
         self.count
     }
 
-    /// The least number that a seat told, or [`NONE_TOLD`](crate::NONE_TOLD).
+    /// The least number that a seat told; [`NONE_TOLD`](crate::NONE_TOLD) where none was told.
     pub fn least(&self) -> u64
         ensures { result ≡ self.now.least }
     {

@@ -6,7 +6,7 @@ ghost use Rattle.board.specs.declared.board.TheConstants.{NONE_TOLD};
 
 use crate::board::NONE_TOLD;
 
-/// No number is above `NONE_TOLD`, which says that no number was told.
+/// `NONE_TOLD`, which says that no number was told, is the greatest `u64`.
 pub fn none_told_is_the_greatest()
     ensures { NONE_TOLD ≡ 18446744073709551615 }
 {}

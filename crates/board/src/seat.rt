@@ -1,10 +1,10 @@
-//! The right to make the steps of one thread.
+//! Seats of a board: the right of one thread to draw and to tell.
 
 use crate::account::Account;
 use std::marker::Model;
 
 /// A seat of a board, by which a thread draws and tells. A contract sees its board, the numbers
-/// that it drew, told and was answered, and whether it was answered that all are drawn.
+/// that it drew, told and was answered, and its mark: it was answered that all are drawn.
 #[derive(Drop)]
 pub struct Seat {
     pub(crate) inner: atomic_table::Seat<(), Account>,

@@ -208,7 +208,7 @@ HaveSettled old [] new = new ≡ old
 HaveSettled old (w ∷ ws) new =
     (between : BookView) × Settles old w between × HaveSettled between ws new
 
--- so many places from one on
+-- this many places from the first on
 abbrev pub places_from : ℕ → ℕ → List ℕ
 places_from first zero = []
 places_from first (suc n) = first ∷ places_from (suc first) n

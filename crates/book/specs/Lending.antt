@@ -52,7 +52,7 @@ as_book b = record {
   dropped = false;
 }
 
--- the book, of which none of so many workers has an item yet
+-- the book, of which none of this many workers has an item yet
 abbrev pub lending : BookView → ℕ → LendingView
 lending b workers = record {
   of = b.of;
@@ -79,7 +79,7 @@ pub record IsLoanOf (p : Program) (loan : ListView) : Type 0 where
 abbrev pub Has : LendingView → ℕ → List ItemView → Type 0
 Has b worker items = slice_get b.lent worker ≡ Some items
 
--- the last free items, so many or all
+-- the last free items, this many of them, or all where there are fewer
 abbrev pub last_free : LendingView → ℕ → List ItemView
 last_free b most = drop (length b.free - most) b.free
 
@@ -90,7 +90,7 @@ lent_to b worker most = record b {
   lent = set b.lent worker (last_free b most);
 }
 
--- the last free items, at most so many, were lent to a worker that had none: the loan is of these
+-- the last free items, at most this many, were lent to a worker that had none: the loan is of these
 pub record Lends (old : LendingView) (worker most : ℕ) (loan : ListView) (new : LendingView)
     : Type 0 where
   pub idle : Has old worker []

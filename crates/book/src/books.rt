@@ -1,4 +1,4 @@
-//! The book of a search: what is finished, what is open, and what waits for the next bound.
+//! The book of a search: what is finished, which items are open, and which are deferred.
 
 ghost use Rattle.std.specs.Prelude.{true, false, None, count_by, ◌≡◌, ◌<◌, ◌≤◌, ◌+◌, ◌-◌, ◌↔◌, [], length, drop, is_ok, if◌then◌else◌, IfOk, OnOk, IfErr, OnErr, Ok, IfSome, IfNone, IsTrue, slice_get, Some, All};
 ghost use Rattle.std.specs.Arc.{arc_value};
@@ -29,28 +29,32 @@ use walk::found::Found;
 use walk::walked::Walked;
 use walk::walker::Walker;
 
-/// What is finished of the search of an item's schedules in a mode, which items are still open, and
-/// which wait for the next bound. The item of all schedules of a program is its root.
+/// The book of a search of an item's schedules in a mode: the summary of what is finished, the
+/// items that are still open, and those deferred to the next bound. For all schedules of a program
+/// the item is the program's root. A quick book, of a search that wants the first bad schedule
+/// alone, drops open items whose schedules all come after a bad one that was found.
 ///
 /// The type keeps that the item's sum is what is finished joined with the sums of the open items,
 /// that nothing is counted that was not tried, that every item lies under the book's, and that no
-/// schedule lies under two items. Where items were dropped from a quick book, they come after
-/// the first bad schedule that was found. A book whose bound is made the last one doesn't list what
-/// the bound puts off: the type keeps that there is such a list.
+/// schedule lies under two items. Where items were dropped, they come after the first bad schedule
+/// that was found. A book whose bound is made the last one doesn't list the prefixes that walks
+/// defer: the type keeps that there is such a list.
 #[derive(Drop)]
 pub struct Book {
+    // The item whose schedules are searched.
     pub(crate) of: Item,
     pub(crate) mode: Mode,
     pub(crate) finished: Summary,
     pub(crate) open_items: ItemList,
     pub(crate) deferred: ItemList,
-    // Whether what the bound puts off is listed.
+    // Whether prefixes that walks defer are listed.
     pub(crate) lists: bool,
     pub(crate) quick: bool,
+    // Whether an open item was dropped.
     pub(crate) dropped: bool,
-    // Whether no open item is left that is to be dropped.
+    // Whether the book is known to have no open item to drop.
     pub(crate) swept: bool,
-    // Where end views were found in the finished summary, for the next look-up.
+    // Hints at where end views stand in the finished summary.
     pub(crate) hints: Box<EndHints>,
 }
 
@@ -70,7 +74,8 @@ impl Model for Book {
 }
 
 impl Book {
-    /// The book of a program at the start of a search: its one open item is the root.
+    /// The book of all schedules of a program at the start of a search: the root is its one open
+    /// item.
     ///
     /// # Errors
     ///
@@ -81,7 +86,8 @@ impl Book {
         Book::open_as(alloc, Item::root(alloc, program)?, mode, false)
     }
 
-    /// The book of a program as a quick search starts, which may drop items: the root is open.
+    /// The book of all schedules of a program at the start of a quick search: the root is its one
+    /// open item. The book may drop items that come after a bad schedule.
     ///
     /// # Errors
     ///
@@ -92,8 +98,8 @@ impl Book {
         Book::open_as(alloc, Item::root(alloc, program)?, mode, true)
     }
 
-    /// The book of an item at the start of a search of what begins with the item's prefix: the item
-    /// is open. The prefix has no more preemptions than the mode's bound.
+    /// The book of an item's schedules at the start of a search: the item is the one open item. Its
+    /// prefix must have no more preemptions than the mode's bound, if there is one.
     ///
     /// # Errors
     ///
@@ -105,7 +111,8 @@ impl Book {
         Book::open_as(alloc, item, mode, false)
     }
 
-    // The book of an item, quick or not, at the start of a search: the item is open.
+    // The book of an item's schedules at the start of a search: the item is the one open item.
+    // `quick` says whether the search is a quick one.
     fn open_as(alloc: Global, of: Item, mode: Mode, quick: bool) -> Result<Book, AllocError>
         requires { IsWithin mode of }
         ensures { IfOk result (λ b. b ≡ opening_of of mode quick) }
@@ -134,14 +141,15 @@ impl Book {
         self.of.shared_program()
     }
 
-    /// Which schedules of the book's item are to be tried: those within a bound, or not pruned.
+    /// Which schedules of the book's item are to be tried: those within a bound, or those that
+    /// sleep sets leave.
     pub fn mode(&self) -> Mode
         ensures { result ≡ self.now.mode }
     {
         self.mode
     }
 
-    /// The summary of what walks of the book's items have tried.
+    /// The summary of what settled walks of the book's items have tried.
     pub fn finished(&self) -> &Summary
         ensures finished { result.now ≡ self.now.finished }
         ensures kept { Keeps self.now }
@@ -169,21 +177,22 @@ impl Book {
         self.open_items.item(alloc, self.of.shared_program(), place)
     }
 
-    /// Whether the book lists the prefixes that its bound puts off, for the next bound.
+    /// Whether the book lists the prefixes that walks defer; false once its bound was made the
+    /// last.
     pub fn lists_deferred(&self) -> bool
         ensures { result ≡ self.now.lists }
     {
         self.lists
     }
 
-    /// How many items wait for the next bound.
+    /// How many items are deferred to the next bound; 0 where the book doesn't list them.
     pub fn deferred_len(&self) -> usize
         ensures { result ≡ length self.now.deferred }
     {
         self.deferred.len()
     }
 
-    /// A copy of the item at a place among those that wait for the next bound, counted from 0.
+    /// A copy of the deferred item at a place, counted from 0.
     ///
     /// # Errors
     ///
@@ -220,13 +229,13 @@ impl Book {
     {
         let mut items = Vec::new(alloc);
         self.open_items
-            .copy_last(alloc, self.of.shared_program(), ROUND, &mut items)?;
+            .clone_last_into(alloc, self.of.shared_program(), ROUND, &mut items)?;
         Ok(items)
     }
 
-    /// Writes the book's next round over `items`: copies of the last open items, at most `ROUND`,
-    /// in their order. The memory of `items` serves the copies of packed ones, others are copied
-    /// anew. An item that is settled is looked for in this round first; no contract sees that.
+    /// Replaces `items`, which have to be of the same program, by the book's next round: copies of
+    /// the last open items, at most `ROUND`, in their order. The memory of `items` serves copies of
+    /// packed items. `settle_all` then begins to look where these items stand; no contract says so.
     ///
     /// # Errors
     ///
@@ -242,11 +251,11 @@ impl Book {
         let first = self.open_items.len().saturating_sub(ROUND);
         self.open_items.set_hint(first);
         self.open_items
-            .copy_last(alloc, self.of.shared_program(), ROUND, items)
+            .clone_last_into(alloc, self.of.shared_program(), ROUND, items)
     }
 
-    /// The sum of the schedules of the book's item in the book's mode, if nothing is open. A quick
-    /// book has none.
+    /// The sum of the schedules of the book's item in the book's mode. `None` where an item is
+    /// open, whose schedules it lacks, or the book is quick: it may lack those of dropped items.
     pub fn whole_summary(&self) -> Option<&Summary>
         ensures some { IfSome result (λ s. (s.now ≡ self.now.finished) × (self.now.quick ≡ false) ×
             (self.now.open_items ≡ [])) }
@@ -260,8 +269,9 @@ impl Book {
         }
     }
 
-    /// The summary of the whole program in this mode, if nothing is open, the book is of the root,
-    /// and its program and mode equal those given, by value. A quick book has none.
+    /// The summary of all schedules of a program in a mode. `None` where an item is open, the book
+    /// is quick, so that it may lack schedules, or the book isn't of the program's root and this
+    /// mode. Programs are compared by value.
     pub fn closed(&self, program: &Program, mode: Mode) -> Option<&Summary>
         ensures some { IfSome result (λ s. (s.now ≡ self.now.finished) × (self.now.quick ≡ false) ×
             IsClosed self.now program.now mode) }
@@ -276,9 +286,10 @@ impl Book {
         }
     }
 
-    /// The summary of what a quick search of the whole program tried, if nothing is open and the
-    /// book's program and mode equal those given, by value. The answer is bounded by the program's
-    /// summary, and equals that one where no bad schedule was found.
+    /// What a quick search of all schedules of a program in a mode tried. `None` where an item is
+    /// open, the book isn't a quick one, or it isn't of the program's root and this mode. Programs
+    /// are compared by value. The answer has the first bad schedule of the program's summary, no
+    /// greater counts and no other end views; the two are equal where no bad schedule was found.
     pub fn closed_quick(&self, program: &Program, mode: Mode) -> Option<&Summary>
         ensures some { IfSome result (λ s. (s.now ≡ self.now.finished) × (self.now.quick ≡ true) ×
             IsClosed self.now program.now mode) }
@@ -296,15 +307,15 @@ impl Book {
         }
     }
 
-    // Whether nothing is open and the book is of the root of this program, in this mode.
+    // Whether no item is open, and the book is of all schedules of this program, in this mode.
     fn is_closed(&self, program: &Program, mode: Mode) -> bool
         ensures { IsTrue result ↔ IsClosed self.now program.now mode }
     {
         self.open_items.len() == 0 && same_modes(self.mode, mode) && is_root(&self.of, program)
     }
 
-    /// Whether the book drops an item where the item is open: the book is quick, and each schedule
-    /// of the item comes after the first bad schedule so far.
+    /// Whether [`Book::drop_later`] drops this item where it is open: the book is quick, and each
+    /// schedule of the item comes after the first bad schedule so far.
     pub fn drops(&self, item: &Item) -> bool
         ensures { result ≡ drops self.now item.now }
     {
@@ -318,7 +329,8 @@ impl Book {
     }
 
     /// Drops the open items of a quick book whose schedules all come after the first bad schedule
-    /// so far, and answers how many. Any other book drops none. No memory is taken.
+    /// so far, and answers how many. It is 0 where the book isn't quick, has no bad schedule, or is
+    /// known to have no such item. No memory is taken.
     pub fn drop_later(&mut self) -> u64
         ensures book { self.new ≡ thinned self.old }
         ensures number { result ≡ count_by (drops self.old) self.old.open_items }
@@ -339,7 +351,8 @@ impl Book {
     }
 
     /// Settles a walk: takes its item from the open ones, joins what was tried to what is finished,
-    /// and puts what the walk left after the open items, what it deferred after the waiting ones.
+    /// appends what the walk left to the open items and, where the book lists deferred items, what
+    /// it deferred to these.
     ///
     /// # Errors
     ///
@@ -361,16 +374,17 @@ impl Book {
         Ok(())
     }
 
-    /// Settles at once what walks of `items` of the book's last round found, in the book's mode: of
-    /// those at these `places`, one after another. Answers whether the walks were taken: they
-    /// aren't only where their items aren't open in that order, or where the book lists what is
-    /// put off and `found` doesn't. No program is compared. Packed items of a round are unpacked
-    /// for its first walks, which no contract sees. The memory of `found` serves later walks.
+    /// Settles at once what walks found of items of the book's last round, in the book's mode: of
+    /// the items `items[k]`, for each k of `places` in turn. Answers whether the walks were
+    /// settled. They aren't where the items aren't open in that order, or where the book lists
+    /// deferred prefixes and `found` doesn't. All items have to be of the book's program. Packed
+    /// ones are unpacked when the round's first walks are settled, which no contract says. The
+    /// memory of `found` serves later walks.
     ///
     /// # Errors
     ///
     /// `AllocError` where memory runs out. The book and `found` are as before then, and also where
-    /// the walks aren't taken.
+    /// the walks aren't settled.
     pub fn settle_all(
         &mut self,
         alloc: Global,
@@ -394,7 +408,7 @@ impl Book {
         }
         let Some(open_at) = self
             .open_items
-            .places_of(alloc, self.of.shared_program(), items, places)?
+            .unpack_and_find(alloc, self.of.shared_program(), items, places)?
         else {
             return Ok(false);
         };
@@ -403,9 +417,9 @@ impl Book {
         Ok(true)
     }
 
-    /// Walks the last open items, at most `ROUND`, in their order, each where it stands, and
-    /// settles the walks at once: no item is copied. What the walks find is kept in `found`, whose
-    /// memory serves one round after another.
+    /// Walks the last open items, at most `ROUND`, in their order, each for at most `quota`
+    /// schedules, and settles the walks at once. No item is copied. What the walks find is gathered
+    /// in `found`, whose memory serves later rounds.
     ///
     /// # Errors
     ///
@@ -431,16 +445,17 @@ impl Book {
         walker.clear(found, self.lists);
         for place in first..end {
             let item = self.open_items.unpacked_item(place);
-            walker.walk_on(alloc, found, item, self.mode, quota)?;
+            walker.walk_into(alloc, found, item, self.mode, quota)?;
         }
         let places = [first; ROUND];
         self.settle_at(alloc, found, first, &places[..end - first])
     }
 
-    // Settles what walks of the open items at `places` found: each place is counted without the
-    // items at those before it, and none is below `first`. First there is memory for what is left
-    // open, and what is put off is listed; then the sum is joined, which is the last that can be
-    // refused; then items come and go. The memory of `found` is left for later walks.
+    // Settles what walks found of the open items at `places`, none of which is below `first`. Each
+    // place is counted without the items of the places before it in `places`. Unpacks the open
+    // items from `first` on, or, where `may_pack` says no, all open and deferred ones. All that
+    // takes memory comes first, so that the book is as before where it runs out. The memory of
+    // `found` serves later walks.
     fn settle_at(
         &mut self,
         alloc: Global,
@@ -459,14 +474,14 @@ impl Book {
         let program = self.of.shared_program();
         let packs = may_pack(self.quick, &self.finished, &found.part);
         self.open_items
-            .unpack_from(alloc, program, first_unpacked(packs, first))?;
+            .unpack_from(alloc, program, unpack_start(packs, first))?;
         let deferred_len = self.deferred.len();
         self.deferred
-            .unpack_from(alloc, program, first_unpacked(packs, deferred_len))?;
-        let quiet = is_quiet(found);
+            .unpack_from(alloc, program, unpack_start(packs, deferred_len))?;
+        let quiet = adds_nothing_to_drop(found);
         self.open_items.reserve(found.rest.len())?;
         let none = Prefixes::new(alloc);
-        let listed = listed_of(self.lists, &found.deferred, &none);
+        let listed = listed_prefixes(self.lists, &found.deferred, &none);
         self.deferred
             .append_prefixes(alloc, program, listed, packs)?;
         if let Err(error) = self.finished.join_in(&mut self.hints, &mut found.part) {
@@ -479,17 +494,17 @@ impl Book {
         Ok(())
     }
 
-    /// Makes the book's bound the last one: what was put off is forgotten, and what is put off from
-    /// now on isn't listed. No memory is taken.
-    pub fn make_last(&mut self)
+    /// Makes the book's bound the last one of the search: the deferred items are forgotten, and
+    /// prefixes that later walks defer aren't listed. No memory is taken.
+    pub fn make_bound_last(&mut self)
         ensures { self.new ≡ made_last self.old }
     {
         self.deferred.truncate(0);
         self.lists = false;
     }
 
-    /// Goes on from the book's bound to the next one: what is finished stays, `beyond` aside, and
-    /// the items that waited for the next bound are open. No memory is taken.
+    /// Goes on from the book's bound to the next one: the deferred items are open, and what is
+    /// finished stays, but for its mark that some schedule is beyond the bound. No memory is taken.
     ///
     /// # Errors
     ///
@@ -520,15 +535,20 @@ impl Book {
     }
 }
 
-// The prefixes that walks put off, where `lists` says that such are listed, else the list `none`.
-pub(crate) fn listed_of<'a>(lists: bool, prefixes: &'a Prefixes, none: &'a Prefixes) -> &'a Prefixes
+// Which of the `prefixes` that walks deferred a book lists: all where `lists` is set, else `none`,
+// a list that has to be empty.
+pub(crate) fn listed_prefixes<'a>(
+    lists: bool,
+    prefixes: &'a Prefixes,
+    none: &'a Prefixes,
+) -> &'a Prefixes
     requires { none.now ≡ [] }
     ensures { result.now ≡ listed_if lists prefixes.now }
 {
     if lists { prefixes } else { none }
 }
 
-// Whether an item is the root of this program: the item of all its schedules.
+// Whether an item is the root of this program: its prefix is empty, and no thread sleeps.
 fn is_root(item: &Item, program: &Program) -> bool
     ensures { IsTrue result ↔ (item.now ≡ root_of program.now) }
 {
@@ -544,7 +564,7 @@ fn same_modes(first: Mode, second: Mode) -> bool
     first == second
 }
 
-// The mode at the bound after that of a mode, if there is one.
+// The mode at the next bound. `None` where the bound is the greatest, or the mode has none.
 fn next_mode(mode: Mode) -> Option<Mode>
     ensures some { IfSome result (λ m.
         (bound_of mode < BOUND) × (m ≡ Bounded (bound_of mode + 1))) }
@@ -562,8 +582,9 @@ fn next_mode(mode: Mode) -> Option<Mode>
     }
 }
 
-// Whether a book may pack prefixes once a walk that found this `part` is settled: not where a quick
-// book has a bad schedule, since items are dropped in place from then on.
+// Whether a book may pack items, that is, store them as prefixes alone, once walks are settled that
+// found this `part`. A quick book may not once `finished` or `part` has a bad schedule, since it
+// then drops items, and only unpacked ones can be dropped.
 pub(crate) fn may_pack(quick: bool, finished: &Summary, part: &Summary) -> bool
     ensures { IsTrue result → quick ≡ true →
         (finished.now.first_bad ≡ None) × (part.now.first_bad ≡ None) }
@@ -571,16 +592,18 @@ pub(crate) fn may_pack(quick: bool, finished: &Summary, part: &Summary) -> bool
     !quick || (finished.first_bad().is_none() && part.first_bad().is_none())
 }
 
-// The place from which on items are to stand unpacked: the one given, or 0 where none is packed.
-pub(crate) fn first_unpacked(packs: bool, place: usize) -> usize
+// From which place on all items of a list have to be unpacked: from `place` where the book `packs`
+// items, else from 0.
+pub(crate) fn unpack_start(packs: bool, place: usize) -> usize
     ensures place { result ≤ place }
     ensures none { packs ≡ false → result ≡ 0 }
 {
     if packs { place } else { 0 }
 }
 
-// Whether walks found no bad schedule and left no item open.
-fn is_quiet(found: &Found) -> bool
+// Whether walks found no bad schedule and left no item open: a quick book that settles them has no
+// more open items to drop than before.
+fn adds_nothing_to_drop(found: &Found) -> bool
     ensures { IsTrue result → (found.now.rest.items ≡ []) × (found.now.part.first_bad ≡ None) }
 {
     found.rest.is_empty() && found.part.first_bad().is_none()

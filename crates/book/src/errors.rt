@@ -1,4 +1,4 @@
-//! Why a book refuses a walk, or to go on to the next bound.
+//! Why a book doesn't settle a walk, or doesn't go on to the next bound.
 
 ghost use Rattle.std.specs.Prelude.{◌≡◌};
 
@@ -6,18 +6,18 @@ use std::alloc::AllocError;
 use std::fmt;
 use thiserror::Error;
 
-/// Why a book refused a walk. The book is as before.
+/// Why a book didn't settle a walk. The book is as before.
 #[derive(Debug, Drop, Error)]
 pub enum SettleError {
-    /// The walk's item isn't open.
+    /// The walk's item isn't one of the book's open ones.
     NotOpen,
-    /// The walk is of another program or mode.
+    /// The walk is of another program or mode than the book.
     Stranger,
     /// Memory ran out.
     OutOfMemory,
 }
 
-/// What the user is told: the number and the name of the refusal.
+/// What the user is told: the number and the name of the error; `memory` for `OutOfMemory`.
 impl fmt::Display for SettleError {
     ghost use Rattle.std.specs.Prelude.{Some};
     ghost use Rattle.book.specs.ErrorTexts.{settle_error_text};
@@ -48,13 +48,13 @@ impl From<AllocError> for SettleError {
 pub enum RaiseError {
     /// An item is still open.
     StillOpen,
-    /// The bound is the last one, or the mode has none.
+    /// The bound is the greatest or was made the last one, or the mode has no bound.
     LastBound,
     /// An open item was dropped.
     Dropped,
 }
 
-/// What the user is told: the number and the name of the refusal.
+/// What the user is told: the number and the name of the error.
 impl fmt::Display for RaiseError {
     ghost use Rattle.std.specs.Prelude.{Some};
     ghost use Rattle.book.specs.ErrorTexts.{raise_error_text};

@@ -1,4 +1,4 @@
-// Lists of a book's items.
+// The lists of items of a book, partly packed as prefixes.
 
 ghost use Rattle.std.specs.Prelude.{◌≡◌, ℕ, ◌+◌, ◌-◌, ◌<◌, ◌≤◌, ◌↔◌, [], ◌∷◌, ◌++◌, false, not, length, take, drop, filter, count_by, is_ok, if◌then◌else◌, IfOk, OnOk, IfSome, IfNone, IsTrue, Some, slice_get, slice_index_or, All};
 ghost use Rattle.std.specs.Arc.{arc_value};
@@ -13,7 +13,7 @@ ghost use Rattle.book.specs.Books.{remove_each, AreWithin, AreOpenAt, StandInOrd
 use crate::limits::ROUND;
 use guest_code::program::Program;
 use items::item::{Item, same_masks};
-use packed_items::{last_item, write_last_items};
+use packed_items::{last_item, unpack_last_into};
 use prefix_list::Prefixes;
 use semantics::mask::Mask;
 use std::alloc::{AllocError, Global};
@@ -22,14 +22,14 @@ use std::marker::Model;
 use std::mem;
 use std::sync::Arc;
 
-/// A list of items of one program, which the list's holder knows. First come packed items, prefixes
-/// after which no thread sleeps, a few bytes each; then, in a queue, items that came later or were
-/// asked for, as they are. The items of a round leave the queue at its front.
+// A list of items of one program, which the caller knows. First come packed items: prefixes after
+// which no thread sleeps, a few bytes each. Then, in a queue, come unpacked ones, which were
+// appended later or unpacked to be walked. The items of a round leave the queue at its front.
 #[derive(Drop)]
 pub(crate) struct ItemList {
     packed: Prefixes,
     unpacked: VecDeque<Item>,
-    // The place in `unpacked` at which an item is looked for first.
+    // The index in `unpacked` from which on an item is looked for first.
     hint: usize,
 }
 
@@ -42,7 +42,7 @@ impl Model for ItemList {
 }
 
 impl ItemList {
-    // A list of one item.
+    // A list of one item, unpacked.
     pub(crate) fn of_item(alloc: Global, item: Item) -> Result<ItemList, AllocError>
         ensures packed { IfOk result (λ l. l.packed ≡ []) }
         ensures unpacked { IfOk result (λ l. l.unpacked ≡ item ∷ []) }
@@ -71,7 +71,8 @@ impl ItemList {
         self.packed.len() + self.unpacked.len()
     }
 
-    // A copy of the item at a place of the list, counted from 0.
+    // A copy of the item at a place of the list, counted from 0. To read a packed item, it cuts a
+    // copy of the packed prefixes after that place, and unpacks the last one left.
     pub(crate) fn item(
         &self,
         alloc: Global,
@@ -92,8 +93,9 @@ impl ItemList {
         last_item(alloc, program, &prefixes)
     }
 
-    // Writes copies of the list's last items, at most `most`, over `items`, others of the program.
-    pub(crate) fn copy_last(
+    // Replaces `items`, which have to be of the same program, by copies of the list's last items,
+    // at most `most`, in the list's order. The memory of `items` serves the copies of packed items.
+    pub(crate) fn clone_last_into(
         &self,
         alloc: Global,
         program: &Arc<Program>,
@@ -110,11 +112,11 @@ impl ItemList {
     {
         let unpacked = self.unpacked.len();
         let count = most.saturating_sub(unpacked).min(self.packed.len());
-        write_last_items(alloc, program, &self.packed, count, items)?;
+        unpack_last_into(alloc, program, &self.packed, count, items)?;
         push_copies(alloc, items, &self.unpacked, unpacked.saturating_sub(most))
     }
 
-    // An item that isn't packed, by its place in the whole list.
+    // The item at a place of the whole list, counted from 0, which has to be past the packed ones.
     pub(crate) fn unpacked_item(&self, place: usize) -> &Item
         requires unpacked { length self.now.packed ≤ place }
         requires place { place < length self.now.packed + length self.now.unpacked }
@@ -123,7 +125,8 @@ impl ItemList {
         &self.unpacked[place - self.packed.len()]
     }
 
-    // The place of an item of the list's program, if the list has the item.
+    // The place in the list of an item of the list's program, counted from 0; `None` where the list
+    // doesn't have it. Unpacked items are looked at before packed ones.
     pub(crate) fn position(&self, item: &Item) -> Option<usize>
         requires { AreOf item.now.program self.now.unpacked }
         ensures some { IfSome result (λ k.
@@ -138,7 +141,8 @@ impl ItemList {
         }
     }
 
-    // The place of an item of the list's program among the packed items, if it is one of these.
+    // The place of an item of the list's program among the packed items; `None` where it isn't
+    // there. No item is packed in which a thread sleeps.
     fn packed_position(&self, item: &Item) -> Option<usize>
         ensures some { IfSome result (λ k. (k < length self.now.packed) ×
             (slice_get (items_at item.now.program self.now.packed) k ≡ Some item.now)) }
@@ -151,7 +155,8 @@ impl ItemList {
         self.packed.position(item.prefix())
     }
 
-    // Unpacks the packed items from a place on. If there are any, items are looked for there first.
+    // Unpacks the packed items from a place on, if any; `unpack_and_find` then looks there first.
+    // Where memory runs out, some of them may be unpacked.
     pub(crate) fn unpack_from(
         &mut self,
         alloc: Global,
@@ -171,11 +176,8 @@ impl ItemList {
         Ok(())
     }
 
-    // Unpacks the last packed item, and lets items be looked for there first.
-    //
-    // # Errors
-    //
-    // `AllocError` where memory runs out; the list is then as before.
+    // Unpacks the last packed item. It is the first unpacked one then, and `unpack_and_find` looks
+    // from there on first. Where memory runs out, the list is as before.
     fn unpack_last(&mut self, alloc: Global, program: &Arc<Program>) -> Result<(), AllocError>
         requires some { 0 < length self.old.packed }
         requires run { All IsItem (items_at (arc_value program.now) self.old.packed) }
@@ -198,17 +200,20 @@ impl ItemList {
         self.packed.len()
     }
 
-    // Sets the place in the list from which on items are looked for first.
+    // Sets the place in the list from which on `unpack_and_find` looks for items first. For the
+    // place of a packed item it is that of the first unpacked one.
     pub(crate) fn set_hint(&mut self, place: usize)
         ensures { self.new ≡ self.old }
     {
         self.hint = place.saturating_sub(self.packed.len());
     }
 
-    // Where the items at some `places` of the last round stand in the list, if they stand in their
-    // order: each place is counted without the items found before. Packed items of the round are
-    // unpacked for this when its first walks are settled; all are, where the items aren't found so.
-    pub(crate) fn places_of(
+    // Finds in the list, in this order, the items `items[k]` of a round, for each k of `places`.
+    // Answers the place of each as it is once those found before it are removed; `None` where the
+    // list doesn't have them in this order. Looks among the unpacked items from the hint on; then,
+    // with the last `ROUND` items of the list unpacked, again; then, with all unpacked, from the
+    // first item on.
+    pub(crate) fn unpack_and_find(
         &mut self,
         alloc: Global,
         program: &Arc<Program>,
@@ -229,21 +234,22 @@ impl ItemList {
         ensures unpacked { IfOk result (λ o. IfSome o (λ v.
             All (λ k. length self.new.packed ≤ k) v.items)) }
     {
-        if let Some(found) = self.places_from(alloc, self.hint, items, places)? {
+        if let Some(found) = self.find_from(alloc, self.hint, items, places)? {
             return Ok(Some(found));
         }
         let first = self.len().saturating_sub(ROUND);
         self.unpack_from(alloc, program, first)?;
-        if let Some(found) = self.places_from(alloc, self.hint, items, places)? {
+        if let Some(found) = self.find_from(alloc, self.hint, items, places)? {
             return Ok(Some(found));
         }
         self.unpack_from(alloc, program, 0)?;
-        self.places_from(alloc, 0, items, places)
+        self.find_from(alloc, 0, items, places)
     }
 
-    // Where the items at some `places` of a round stand in the list, if they stand in their order
-    // among the unpacked ones from `first` on: each is counted without the items found before.
-    fn places_from(
+    // Finds among the unpacked items from the index `first` on, in this order, the items `items[k]`
+    // of a round, for each k of `places`. Answers the place in the list of each as it is once those
+    // found before it are removed; `None` where they aren't there in this order.
+    fn find_from(
         &self,
         alloc: Global,
         first: usize,
@@ -272,8 +278,9 @@ impl ItemList {
         Ok(Some(found))
     }
 
-    // Takes out the items from place `first` up to place `end`, none of which is packed.
-    fn remove(&mut self, first: usize, end: usize)
+    // Removes a range of unpacked items: those from place `first` of the list up to, but not
+    // including, place `end`. Neither place may be that of a packed item.
+    fn remove_range(&mut self, first: usize, end: usize)
         requires unpacked { length self.old.packed ≤ first }
         requires range { first ≤ end }
         requires end { end ≤ length self.old.packed + length self.old.unpacked }
@@ -285,8 +292,9 @@ impl ItemList {
         self.unpacked.drain(first - packed..end - packed);
     }
 
-    // Takes out the items at some places, none of them packed: each place is counted without the
-    // items at those before it. So items in a row have all one place, and are taken out at once.
+    // Removes the items at `places`, which have to be unpacked, one after another. Each place is
+    // counted after the removals before it; so items in a row all have the same place, and are
+    // removed at once.
     pub(crate) fn remove_each(&mut self, places: &[usize])
         requires unpacked { All (λ k. length self.old.packed ≤ k) places.now }
         requires within { (p : Program) × AreWithin (all_of p self.old) places.now }
@@ -295,8 +303,9 @@ impl ItemList {
         ensures packed { self.new.packed ≡ self.old.packed }
     {
         if let Some(first) = only_place(places) {
+            // For the proof: the list's length is a usize, so the end of the range is one, too.
             let _length = self.len();
-            return self.remove(first, first + places.len());
+            return self.remove_range(first, first + places.len());
         }
         let packed = self.packed.len();
         for k in 0..places.len() {
@@ -304,11 +313,8 @@ impl ItemList {
         }
     }
 
-    // Gets memory for `more` further items that aren't packed.
-    //
-    // # Errors
-    //
-    // `AllocError` where memory runs out.
+    // Gets memory for `more` further unpacked items. Where memory runs out, the list has the same
+    // items as before.
     pub(crate) fn reserve(&mut self, more: usize) -> Result<(), AllocError>
         ensures packed { self.new.packed ≡ self.old.packed }
         ensures unpacked { self.new.unpacked ≡ self.old.unpacked }
@@ -317,7 +323,8 @@ impl ItemList {
         self.unpacked.reserve(more)
     }
 
-    // Puts items at the list's end, where memory was reserved. Mostly `items` has none.
+    // Moves `items` to the end of the list, unpacked. Memory for them has to be reserved before, so
+    // this can't fail. Often there are none.
     pub(crate) fn append(&mut self, alloc: Global, items: &mut Vec<Item>)
         requires { length self.old.unpacked + length items.old.items ≤ self.old.room }
         ensures packed { self.new.packed ≡ self.old.packed }
@@ -330,11 +337,9 @@ impl ItemList {
         let _ = self.unpacked.append(&mut VecDeque::from_vec(taken));
     }
 
-    // Puts the items of prefixes at the list's end: packed if `packs` and the whole list is packed.
-    //
-    // # Errors
-    //
-    // `AllocError` where memory runs out; the list is then as before.
+    // Appends the items of prefixes after which no thread sleeps. They are packed if `packs` is set
+    // and the list has no unpacked item, since packed items come first; else they are unpacked.
+    // Where memory runs out, the list has the same items as before.
     pub(crate) fn append_prefixes(
         &mut self,
         alloc: Global,
@@ -353,17 +358,15 @@ impl ItemList {
             return self.packed.append(alloc, prefixes);
         }
         let mut items = Vec::new(alloc);
-        write_last_items(alloc, program, prefixes, prefixes.len(), &mut items)?;
+        unpack_last_into(alloc, program, prefixes, prefixes.len(), &mut items)?;
         self.reserve(items.len())?;
         self.append(alloc, &mut items);
         Ok(())
     }
 
-    // Moves the items of another list, unpacked, to the end of this one.
-    //
-    // # Errors
-    //
-    // `AllocError` where memory runs out; both lists have what they had then.
+    // Moves all items of another list, unpacked, to the end of this one; the other list is empty
+    // then. Where memory runs out, none is moved: each list has the same items as before, but some
+    // of the other list's may be unpacked.
     pub(crate) fn append_list(
         &mut self,
         alloc: Global,
@@ -381,13 +384,13 @@ impl ItemList {
         Ok(())
     }
 
-    // Moves this list's last items, at most `most`, into another list, in place of the items that
-    // the other has.
-    //
-    // # Errors
-    //
-    // `AllocError` where memory runs out; this list is then as before, and the other one is empty.
-    pub(crate) fn split_last(&mut self, most: usize, other: &mut ItemList) -> Result<(), AllocError>
+    // Moves this list's last items, at most `most`, into another list, in place of those it has.
+    // Packed ones stay packed. Where memory runs out, none is moved, and the other list is empty.
+    pub(crate) fn move_last_into(
+        &mut self,
+        most: usize,
+        other: &mut ItemList,
+    ) -> Result<(), AllocError>
         ensures kept { (p : Program) → all_of p self.new ≡ (if is_ok result
             then take (length (all_of p self.old) - most) (all_of p self.old)
             else all_of p self.old) }
@@ -406,12 +409,9 @@ impl ItemList {
         Ok(())
     }
 
-    // Makes this list equal to another one, in the memory that this one has.
-    //
-    // # Errors
-    //
-    // `AllocError` where memory runs out; this list has some items of the other then.
-    pub(crate) fn copy_from(&mut self, alloc: Global, other: &ItemList) -> Result<(), AllocError>
+    // Makes this list equal to another one, with the same items packed, in the memory that this one
+    // has. Where memory runs out, this list has the first items of the other one, or none.
+    pub(crate) fn clone_from(&mut self, alloc: Global, other: &ItemList) -> Result<(), AllocError>
         ensures packed { OnOk result (self.new.packed ≡ other.now.packed) }
         ensures unpacked { OnOk result (self.new.unpacked ≡ other.now.unpacked) }
     {
@@ -424,11 +424,10 @@ impl ItemList {
         Ok(())
     }
 
-    // Whether another list of this program has the same items. Mostly comparing bytes is enough.
-    //
-    // # Errors
-    //
-    // `AllocError` where memory runs out.
+    // Whether another list of this program has the same items in the same order. Equal bytes are
+    // equal packed items, but the same items may be packed in different bytes, or be unpacked in
+    // one list alone. So, where bytes or unpacked items differ, it compares unpacked copies of all
+    // items.
     pub(crate) fn has_same_items(
         &self,
         alloc: Global,
@@ -448,13 +447,13 @@ impl ItemList {
             return Ok(true);
         }
         let mut items = Vec::new(alloc);
-        self.copy_last(alloc, program, self.len(), &mut items)?;
+        self.clone_last_into(alloc, program, self.len(), &mut items)?;
         let mut others = Vec::new(alloc);
-        other.copy_last(alloc, program, other.len(), &mut others)?;
+        other.clone_last_into(alloc, program, other.len(), &mut others)?;
         Ok(same_items(&VecDeque::from_vec(items), &VecDeque::from_vec(others)))
     }
 
-    // Takes all items out of the list.
+    // Removes all items. The list keeps its memory.
     pub(crate) fn clear(&mut self)
         ensures packed { self.new.packed ≡ [] }
         ensures unpacked { self.new.unpacked ≡ [] }
@@ -464,7 +463,7 @@ impl ItemList {
         self.hint = 0;
     }
 
-    // Keeps the list's first items, at most `length`, and gives the others up.
+    // Keeps the list's first items, at most `length`, and drops the others. Takes no memory.
     pub(crate) fn truncate(&mut self, length: usize)
         ensures items { (p : Program) → all_of p self.new ≡ take length (all_of p self.old) }
         ensures none { self.old.packed ≡ [] → self.new.packed ≡ [] }
@@ -474,7 +473,8 @@ impl ItemList {
         self.unpacked.truncate(length.saturating_sub(packed));
     }
 
-    // Drops the items whose schedules all come after this schedule, and answers how many.
+    // Drops the items whose schedules all come after this schedule, and answers how many. No item
+    // may be packed. The hint goes back by that number, since up to as many were before it.
     pub(crate) fn drop_later(&mut self, schedule: &[u8]) -> u64
         requires { self.old.packed ≡ [] }
         ensures packed { self.new.packed ≡ [] }
@@ -483,13 +483,13 @@ impl ItemList {
         ensures number { result ≡
             count_by (λ i. is_later schedule.now i.prefix) self.old.unpacked }
     {
-        let number = drop_later(&mut self.unpacked, schedule);
+        let number = remove_later(&mut self.unpacked, schedule);
         self.hint = self.hint.saturating_sub(number as usize);
         number
     }
 }
 
-// The one place that all of these places are, if there is such a one.
+// The place that all of `places` are. `None` where two of them differ, or `places` is empty.
 fn only_place(places: &[usize]) -> Option<usize>
     ensures { IfSome result (λ q. (0 < length places.now) × All (λ k. k ≡ q) places.now) }
 {
@@ -501,7 +501,8 @@ fn only_place(places: &[usize]) -> Option<usize>
     }
 }
 
-// Puts copies of the items of `more`, from place `first` on, at the end of `items`.
+// Appends copies of the items of `more`, from the index `first` on, to `items`. Where memory runs
+// out, some of them may be appended.
 fn push_copies(
     alloc: Global,
     items: &mut Vec<Item>,
@@ -520,7 +521,8 @@ fn push_copies(
     Ok(())
 }
 
-// The first place, from `start` on, at which an item stands in a queue of items of its program.
+// The first place, from `start` on, of an item in a queue of items of its program; `None` where the
+// queue doesn't have it there.
 fn position_from(items: &VecDeque<Item>, start: usize, item: &Item) -> Option<usize>
     requires { AreOf item.now.program items.now.items }
     ensures some { IfSome result (λ k. (start ≤ k) ×
@@ -531,15 +533,16 @@ fn position_from(items: &VecDeque<Item>, start: usize, item: &Item) -> Option<us
         slice_index_or items.now.items j d ≡ item.now → ⊥) }
 {
     for place in start..items.len() {
-        if is_at(items, place, item) {
+        if has_item_at(items, place, item) {
             return Some(place);
         }
     }
     None
 }
 
-// Whether an item stands at a place in a queue of items of its program. No program is compared.
-fn is_at(items: &VecDeque<Item>, place: usize, item: &Item) -> bool
+// Whether an item is the one at a place of a queue of items of its program. As the programs are
+// equal, only prefixes and sleeping threads are compared.
+fn has_item_at(items: &VecDeque<Item>, place: usize, item: &Item) -> bool
     requires program { AreOf item.now.program items.now.items }
     requires place { place < length items.now.items }
     ensures { IsTrue result ↔ (slice_get items.now.items place ≡ Some item.now) }
@@ -548,7 +551,8 @@ fn is_at(items: &VecDeque<Item>, place: usize, item: &Item) -> bool
     same_steps(other.prefix(), item.prefix()) && same_masks(other.mask(), item.mask())
 }
 
-// Whether two queues of items of one program have the same items. No program is compared.
+// Whether two queues of items of one program have equal items at all places. As the programs are
+// equal, only prefixes and sleeping threads are compared.
 fn same_items(first: &VecDeque<Item>, second: &VecDeque<Item>) -> bool
     requires { (p : Program) × AreOf p first.now.items × AreOf p second.now.items }
     ensures { IsTrue result ↔ (first.now.items ≡ second.now.items) }
@@ -557,7 +561,7 @@ fn same_items(first: &VecDeque<Item>, second: &VecDeque<Item>) -> bool
         return false;
     }
     for place in 0..first.len() {
-        if !is_at(first, place, &second[place]) {
+        if !has_item_at(first, place, &second[place]) {
             return false;
         }
     }
@@ -571,7 +575,8 @@ fn same_steps(first: &[u8], second: &[u8]) -> bool
     first == second
 }
 
-/// Whether a prefix differs from a schedule, and has the greater step where they differ first.
+// Whether a prefix has the greater step where it first differs from a schedule: all schedules that
+// begin with the prefix come after that schedule then. False where one begins with the other.
 pub(crate) fn is_later(schedule: &[u8], prefix: &[u8]) -> bool
     ensures { result ≡ is_later schedule.now prefix.now }
 {
@@ -583,8 +588,9 @@ pub(crate) fn is_later(schedule: &[u8], prefix: &[u8]) -> bool
     false
 }
 
-// Drops the items whose schedules all come after this schedule, and answers how many.
-fn drop_later(items: &mut VecDeque<Item>, schedule: &[u8]) -> u64
+// Removes the items of a queue whose schedules all come after this schedule, by `is_later`, and
+// answers how many.
+fn remove_later(items: &mut VecDeque<Item>, schedule: &[u8]) -> u64
     ensures items { items.new.items ≡
         filter (λ i. not (is_later schedule.now i.prefix)) items.old.items }
     ensures number { result ≡

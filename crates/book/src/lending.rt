@@ -1,4 +1,4 @@
-//! Books of which workers have some open items each.
+//! Books that lend open items to workers.
 
 ghost use Rattle.std.specs.Prelude.{◌≡◌, ◌≤◌, [], true, false, Ok, IfOk, length, set};
 ghost use Rattle.summary.specs.Summaries.{cut};
@@ -7,7 +7,7 @@ ghost use Rattle.book.specs.Books.{Keeps, HaveFound, HaveSettled, places_from};
 ghost use Rattle.book.specs.Lending.{as_book, lending, Reorders, IsLoanOf, Has, Lends, IsNotSettled};
 ghost use Rattle.book.specs.Progress.{IsProgressOf};
 
-use crate::books::{Book, first_unpacked, listed_of, may_pack};
+use crate::books::{Book, listed_prefixes, may_pack, unpack_start};
 use crate::item_list::ItemList;
 use crate::loan::Loan;
 use crate::progress::{Progress, mode_bound};
@@ -19,23 +19,24 @@ use std::marker::Model;
 use summary::{EndHints, Summary};
 use walk::found::Found;
 
-/// A book that lends open items to workers, which walk them in rounds of their own. No item was
-/// dropped from the book. A lent item is still open, and stands before those that nobody has.
+/// A book that lends open items to workers, which walk them as rounds of their own. A lent item is
+/// still open, and comes before the free items, which are lent to nobody. No item was dropped from
+/// the book.
 ///
-/// The type keeps of such a book what the type [`Book`] keeps.
+/// The type keeps what the type [`Book`] keeps.
 #[derive(Drop)]
 pub struct LendingBook {
     of: Item,
     mode: Mode,
     finished: Summary,
-    // The open items that nobody has, and those that each worker has.
+    // The open items that are lent to nobody, and those lent to each worker.
     free: ItemList,
     lent: Vec<ItemList>,
     deferred: ItemList,
-    // Whether what the bound puts off is listed.
+    // Whether prefixes that walks defer are listed.
     lists: bool,
     quick: bool,
-    // Where end views were found in the finished summary, for the next look-up.
+    // Hints at where end views stand in the finished summary.
     hints: Box<EndHints>,
 }
 
@@ -53,7 +54,8 @@ impl Model for LendingBook {
 }
 
 impl LendingBook {
-    /// A book that lends its items to this many `workers`, of which none has an item yet.
+    /// A book that lends its items to `workers` workers, which are numbered from 0. None has an
+    /// item yet. The book must have dropped no item.
     ///
     /// # Errors
     ///
@@ -91,7 +93,8 @@ impl LendingBook {
         })
     }
 
-    /// The book that lends no more: the items that workers have are open, too.
+    /// The book, which lends no more: what was lent to workers follows its other open items. All
+    /// items are unpacked if it is quick and has a bad schedule, so that it can drop open ones.
     ///
     /// # Errors
     ///
@@ -115,9 +118,9 @@ impl LendingBook {
             free.append_list(alloc, program, &mut list)?;
         }
         let packs = may_pack(quick, &finished, &finished);
-        let first = first_unpacked(packs, free.len());
+        let first = unpack_start(packs, free.len());
         free.unpack_from(alloc, program, first)?;
-        let first = first_unpacked(packs, deferred.len());
+        let first = unpack_start(packs, deferred.len());
         deferred.unpack_from(alloc, program, first)?;
         Ok(Book {
             of,
@@ -133,7 +136,7 @@ impl LendingBook {
         })
     }
 
-    /// The summary of what walks of the book's items have tried.
+    /// The summary of what settled walks of the book's items have tried.
     pub fn finished(&self) -> &Summary
         ensures finished { result.now ≡ self.now.finished }
         ensures kept { Keeps (as_book self.now) }
@@ -148,7 +151,7 @@ impl LendingBook {
         self.free.len()
     }
 
-    /// How far the search is. Open items, lent ones among them, are counted up to 2^64 - 1.
+    /// How far the search is. Open items, those lent included, are counted up to 2^64 - 1.
     pub fn progress(&self) -> Progress
         ensures progress { let b = as_book self.now in
             IsProgressOf b (record result { open_items = length b.open_items }) }
@@ -168,9 +171,9 @@ impl LendingBook {
         }
     }
 
-    /// Lends the last of the free items, at most `most`, to a worker that has none, and copies
-    /// these items into a loan. Answers whether they were lent: they aren't only where there is no
-    /// such worker, or where the worker has items.
+    /// Replaces the items of `loan` by copies of the last free items, at most `most`, and lends
+    /// these to a worker that has none. Answers whether it did: false where no worker has this
+    /// number, or the worker still has items; true also where no item is free.
     ///
     /// # Errors
     ///
@@ -195,20 +198,20 @@ impl LendingBook {
         if lent.len() > 0 {
             return Ok(false);
         }
-        self.free.split_last(most, lent)?;
-        loan.list.copy_from(alloc, lent)?;
+        self.free.move_last_into(most, lent)?;
+        loan.list.clone_from(alloc, lent)?;
         Ok(true)
     }
 
-    /// Settles at once what walks of all items of a worker's loan found, in the loan's order: what
-    /// the walks left is free. Answers whether they were taken: they aren't only where the worker
-    /// hasn't these items, or where the book lists what is put off and `found` doesn't. The memory
-    /// of `found` serves later walks.
+    /// Settles at once what walks found of all items of a worker's loan, in the loan's order; items
+    /// that the walks left are free. Answers whether they were settled: false where the loan's
+    /// items aren't those lent to a worker of this number, or the book lists deferred prefixes and
+    /// `found` doesn't. The memory of `found` serves later walks.
     ///
     /// # Errors
     ///
     /// `AllocError` where memory runs out. The book and `found` are as before then, and also where
-    /// the walks aren't taken.
+    /// the walks aren't settled.
     pub fn settle(
         &mut self,
         alloc: Global,
@@ -243,7 +246,7 @@ impl LendingBook {
         self.free.reserve(found.rest.len())?;
         let deferred_len = self.deferred.len();
         let none = Prefixes::new(alloc);
-        let listed = listed_of(self.lists, &found.deferred, &none);
+        let listed = listed_prefixes(self.lists, &found.deferred, &none);
         self.deferred.append_prefixes(alloc, program, listed, true)?;
         if let Err(error) = self.finished.join_in(&mut self.hints, &mut found.part) {
             self.deferred.truncate(deferred_len);

@@ -13,7 +13,8 @@ use std::alloc::{AllocError, Global};
 use std::marker::Model;
 use std::sync::Arc;
 
-/// Copies of the open items that a book has lent to a worker: a round of its own.
+/// Copies of the open items that a book has lent to a worker, which walks them as a round of its
+/// own.
 #[derive(Drop)]
 pub struct Loan {
     pub(crate) list: ItemList,
@@ -28,7 +29,7 @@ impl Model for Loan {
 }
 
 impl Loan {
-    /// A loan of no item.
+    /// An empty loan, which a book fills when it lends.
     pub fn new(alloc: Global) -> Loan
         ensures packed { result.packed ≡ [] }
         ensures unpacked { result.unpacked ≡ [] }
@@ -38,12 +39,13 @@ impl Loan {
         }
     }
 
-    /// Writes copies of the loan's items, in the loan's order, over `items`, others of the program.
+    /// Replaces `items`, which have to be of the same program, by copies of the loan's items, in
+    /// the loan's order. The memory of `items` is used again.
     ///
     /// # Errors
     ///
-    /// `AllocError` where memory runs out.
-    pub fn write_items(
+    /// `AllocError` where memory runs out; `items` has some items of the program then.
+    pub fn clone_items_into(
         &self,
         alloc: Global,
         program: &Arc<Program>,
@@ -55,6 +57,6 @@ impl Loan {
         ensures program { AreOf (arc_value program.now) items.new.items }
     {
         let most = self.list.len();
-        self.list.copy_last(alloc, program, most, items)
+        self.list.clone_last_into(alloc, program, most, items)
     }
 }

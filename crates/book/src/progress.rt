@@ -13,17 +13,17 @@ pub struct Progress {
     pub bound: Option<u32>,
     /// How many schedules were tried, at most 2^64 - 1.
     pub tried: u64,
-    /// How many of the tried schedules failed or got stuck.
+    /// How many of the tried schedules failed or got stuck, at most 2^64 - 1.
     pub bad: u64,
     /// How many items are open: prefixes whose schedules are still to be tried at this bound.
     pub open_items: usize,
-    /// How many prefixes wait for the next bound.
+    /// How many prefixes are deferred to the next bound.
     pub deferred: usize,
-    /// Whether there is a next bound, for which prefixes are listed.
+    /// Whether deferred prefixes are listed: the search may go on to a next bound.
     pub lists: bool,
 }
 
-/// The bound of a mode, if it has one.
+/// The bound of a mode; `None` where it has none.
 pub fn mode_bound(mode: Mode) -> Option<u32>
     ensures { result ≡ mode_bound mode }
 {
@@ -34,7 +34,7 @@ pub fn mode_bound(mode: Mode) -> Option<u32>
 }
 
 impl Progress {
-    /// How far the search is that has this book.
+    /// How far the search of this book is.
     pub fn of(book: &Book) -> Progress
         ensures { IsProgressOf book.now result }
     {

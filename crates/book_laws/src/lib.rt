@@ -16,15 +16,16 @@ ghost use Rattle.book.specs.Books.{BookView, Keeps, KeepsWhere, IsBook, IsThinne
 
 use book::limits::ROUND;
 
-/// A book that lists what its bound puts off has all of that among its deferred items: it is one as
-/// `IsBook` says where no item was dropped, else one as `IsThinned` says.
-pub fn what_is_listed_is_all()
+/// A book that lists the prefixes that its bound puts off splits all schedules of its item: into
+/// what is finished, those of the open items and those of the deferred ones (`IsBook`). Where items
+/// were dropped, those of the dropped items are a part of their own (`IsThinned`).
+pub fn listing_books_split_all()
     ensures { (b : BookView) → Keeps b → b.lists ≡ true → KeepsWhere b.dropped b }
 {}
 
-/// Of any book, whether or not it lists what its bound puts off: the sum of the book's item is what
-/// is finished joined with the sums of the open items, where no item was dropped. Where one was,
-/// the join is bounded by the item's sum. The sum of a program's root is the program's summary.
+/// Of any book, whether or not it lists what its bound puts off: the sum of its item is what is
+/// finished joined with the sums of the open items, where none was dropped. Where one was, the join
+/// has no greater counts than the sum, no other end views, and the same first bad schedule.
 pub fn every_book_joins()
     ensures whole { (b : BookView) → Keeps b → b.dropped ≡ false →
         item_sum b.mode b.of ≡ join b.finished (item_sums b.mode b.open_items) }
@@ -33,7 +34,7 @@ pub fn every_book_joins()
 {}
 
 /// Of any book, whether or not it lists what its bound puts off: no schedule begins with the
-/// prefixes of two of the open and the deferred items, at different places.
+/// prefixes of two items, at different places among the open and the deferred ones.
 pub fn no_book_has_a_schedule_twice()
     ensures { (b : BookView) (v : List ℕ) (i j : ℕ) (d : ItemView) → Keeps b →
         i < j → j < length (items_left b) →
@@ -43,8 +44,8 @@ pub fn no_book_has_a_schedule_twice()
 
 /// Of any book, whether or not it lists what its bound puts off: each open item lies under the
 /// book's item, and has those of the book's schedules that begin with the open item's prefix. Where
-/// no item was dropped, what is finished, `beyond` aside, is the sum of the book's schedules that
-/// lie under no open item.
+/// no item was dropped, what is finished, its flag `beyond` aside, is the sum of the book's
+/// schedules that lie under no open item.
 pub fn every_book_splits()
     ensures below { (b : BookView) → Keeps b → All (IsBelow b.of) b.open_items }
     ensures schedules { (b : BookView) → Keeps b → All (HasItsSchedules b) b.open_items }
@@ -59,33 +60,33 @@ pub fn finished_and_open_join()
         item_sum b.mode b.of ≡ join b.finished (item_sums b.mode b.open_items) }
 {}
 
-/// Of a book from which nothing was dropped: what is finished, `beyond` aside, is the sum of the
-/// book's schedules that lie under no open item.
-pub fn finished_is_under_none()
+/// Of a book from which nothing was dropped: what is finished, its flag `beyond` aside, is the sum
+/// of the book's schedules that lie under no open item.
+pub fn finished_is_under_no_open_item()
     ensures { (b : BookView) → IsBook b → b.finished ≡ with_beyond
         (sum_of b.of.program (clear_of b.open_items (book_schedules b))) b.finished.beyond }
 {}
 
 /// Of a book from which nothing was dropped: each open item lies under the book's item, and has
 /// those of the book's schedules that begin with the open item's prefix.
-pub fn open_have_their_schedules()
+pub fn open_items_have_their_schedules()
     ensures below { (b : BookView) → IsBook b → All (IsBelow b.of) b.open_items }
     ensures schedules { (b : BookView) → IsBook b → All (HasItsSchedules b) b.open_items }
 {}
 
-/// Of a book from which nothing was dropped: no schedule begins with the prefixes of two of the
-/// open and the deferred items, at different places.
-pub fn none_is_under_two()
+/// Of a book from which nothing was dropped: no schedule begins with the prefixes of two items, at
+/// different places among the open and the deferred ones.
+pub fn no_schedule_is_under_two_items()
     ensures { (b : BookView) (v : List ℕ) (i j : ℕ) (d : ItemView) → IsBook b →
         i < j → j < length (items_left b) →
         begins_with (slice_index_or (items_left b) i d).prefix v ≡ true →
         begins_with (slice_index_or (items_left b) j d).prefix v ≡ false }
 {}
 
-/// Of a book at a bound from which nothing was dropped: all complete schedules that begin with the
-/// prefix of the book's item, whatever their preemptions, are what is finished, `beyond` aside, and
-/// those of the open and the deferred items. So of the parts that were settled no two are of one
-/// schedule, at whatever bounds they were walked.
+/// Of a book at a bound from which nothing was dropped: the sum of all complete schedules that
+/// begin with the prefix of the book's item, whatever their preemptions, is what is finished, its
+/// flag `beyond` aside, joined with those of the open and the deferred items. So no schedule was
+/// tried twice, whatever the bounds of the settled walks were.
 pub fn nothing_is_walked_twice()
     ensures { (b : BookView) (bound : ℕ) → b.mode ≡ Bounded bound → IsBook b →
         full_sum b.of ≡
@@ -96,7 +97,7 @@ pub fn nothing_is_walked_twice()
 /// begins with the prefix of the book's item lies under an open or a deferred item. The open items
 /// are within the bound. The deferred ones lie under the book's item, and are past the bound by
 /// their last step alone.
-pub fn what_is_past_is_kept()
+pub fn past_the_bound_is_open_or_deferred()
     ensures all { (b : BookView) (bound : ℕ) (v : List ℕ) → b.mode ≡ Bounded bound → IsBook b →
         Contains (complete_schedules b.of.program (start b.of.program)) v →
         begins_with b.of.prefix v ≡ true → bound < preemptions b.of.program v →
@@ -108,27 +109,29 @@ pub fn what_is_past_is_kept()
         All (IsDeferred bound) b.deferred }
 {}
 
-/// Nothing is deferred in a book from which nothing was dropped and whose mode prunes schedules.
+/// Nothing is deferred in a book from which nothing was dropped and whose mode uses sleep sets.
 pub fn pruned_books_defer_nothing()
     ensures { (b : BookView) → b.mode ≡ Reduced → IsBook b → b.deferred ≡ [] }
 {}
 
 /// Of a quick book from which an item was dropped: what is finished joined with the sums of the
-/// open items is bounded by the sum of the book's item.
-pub fn dropping_is_bounded()
+/// open items is bounded by the sum of the book's item (`IsBoundedBy`): it has the same first bad
+/// schedule, no greater counts, and no end views but those of that sum.
+pub fn dropping_leaves_a_lower_bound()
     ensures { (b : BookView) → IsThinned b →
         IsBoundedBy (join b.finished (item_sums b.mode b.open_items)) (item_sum b.mode b.of) }
 {}
 
 /// Of a quick book from which an item was dropped: what is finished has a first bad schedule, which
-/// is a bad one of the book's schedules.
+/// is one of the book's schedules and is bad.
 pub fn dropping_needs_a_bad_one()
     ensures { (b : BookView) → IsThinned b → (w : List ℕ) × (b.finished.first_bad ≡ Some w) ×
         Contains (book_schedules b) w × (is_bad (end_kind b.of.program w) ≡ true) }
 {}
 
-/// Of a quick book from which an item was dropped: each open item lies under the book's item and
-/// has its schedules; no schedule begins with the prefixes of two of the open and deferred items.
+/// Of a quick book from which an item was dropped: each open item lies under the book's item, and
+/// has those of the book's schedules that begin with the open item's prefix; no schedule begins
+/// with the prefixes of two items, at different places among the open and the deferred ones.
 pub fn dropping_keeps_the_open()
     ensures below { (b : BookView) → IsThinned b →
         All (IsBelow b.of) b.open_items }
@@ -139,7 +142,7 @@ pub fn dropping_keeps_the_open()
         begins_with (slice_index_or (items_left b) j d).prefix v ≡ false }
 {}
 
-/// How many items a round has at most.
-pub fn greatest_round_is()
+/// `ROUND`, the most items of a round, is 64.
+pub fn greatest_round_is_64()
     ensures { ROUND ≡ 64 }
 {}

@@ -39,8 +39,8 @@ is_not_before k None = false
 is_not_before k (Some step) = nat_le k step
 
 -- the event is the step by which the owner of a mutex took it
-abbrev pub is_taking_step : Holder → Event → Bool
-is_taking_step holder e = is_step e.deed && is holder.since e.step
+abbrev pub took_mutex : Holder → Event → Bool
+took_mutex holder e = is_step e.deed && is holder.since e.step
 
 -- the event is of the owner, in that step or after it
 abbrev pub is_by_owner : Holder → Event → Bool
@@ -51,7 +51,7 @@ is_by_owner holder e = nat_eq e.thread holder.thread && is_not_before holder.sin
 abbrev pub is_asked_of_owner : Program → Reason → Option Holder → Event → Bool
 is_asked_of_owner p reason None e = false
 is_asked_of_owner p reason (Some holder) e =
-    is_taking_step holder e || (is_by_owner holder e && passes_by p e reason)
+    took_mutex holder e || (is_by_owner holder e && passes_by p e reason)
 
 -- an end of thread t asks for an event: where the thread stopped at a mutex or a semaphore, for all
 -- that is on it; where it waits for a condition, for each statement on it, and where another thread

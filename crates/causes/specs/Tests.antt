@@ -3,7 +3,7 @@ use Rattle.std.specs.Prelude.{ℕ, ◌+◌, max, nat_lt, List, [], ◌∷◌, dr
 use Rattle.guest_code.specs.declared.program.Instruction.{Instruction}
 use Rattle.guest_code.specs.Program.{skip_of}
 
--- the number of the first instruction behind all that is passed over, where that is up to here
+-- the number of the first instruction after all that is passed over, where that is up to here
 -- `reach`, and these instructions follow, the first of number `at`: a jump among what is passed
 -- over may lead further
 abbrev pub merge_point_from : List Instruction → ℕ → ℕ → ℕ
@@ -11,7 +11,7 @@ merge_point_from [] at reach = reach
 merge_point_from (i ∷ is) at reach = if nat_lt at reach
     then merge_point_from is (at + 1) (max reach (at + 1 + skip_of i)) else reach
 
--- the number of the first instruction behind all that the jump at an instruction passes over,
+-- the number of the first instruction after all that the jump at an instruction passes over,
 -- together with what the jumps among that pass over
 abbrev pub merge_point : List Instruction → ℕ → ℕ
 merge_point code at = merge_point_from (drop at code) at (at + 1)

@@ -18,32 +18,33 @@ use crate::event::Event;
 use guest_code::limits::{LOCALS, THREADS, VARIABLES};
 use guest_code::program::{Instruction, Program};
 use lint::paths::{is_test, skip_of};
-use lint::uses::{is_in_option, reads, variable_used};
+use lint::uses::{is_some_of, reads, variable_used};
 use std::alloc::{AllocError, Global};
 
-// A backward slice of a run, whose events are taken from the last to the first: what the events of
-// the cause, of those taken so far, depend on.
+/// A backward slice of a run, whose events are taken from the last to the first: what the events of
+/// the cause, of those taken so far, depend on.
 #[derive(Drop)]
 pub struct BackwardSlice {
-    // For each variable whether an event of the cause reads the value that it has before the events
-    // taken.
+    /// For each variable whether an event of the cause reads the value that it has before the
+    /// events taken.
     pub read: [bool; VARIABLES],
-    // For each thread and local whether an event of the cause uses the value that the local has
-    // before the events taken.
+    /// For each thread and local whether an event of the cause uses the value that the local has
+    /// before the events taken.
     pub used: [[bool; LOCALS]; THREADS],
-    // For each thread and variable whether the thread's first use of it in the events taken is in
-    // the cause.
+    /// For each thread and variable whether the thread's first use of it in the events taken is in
+    /// the cause.
     pub next: [[bool; VARIABLES]; THREADS],
-    // For each thread and variable how often the thread uses it before the events taken.
+    /// For each thread and variable how often the thread uses it before the events taken.
     pub uses: [[usize; VARIABLES]; THREADS],
-    // For each thread the least number of an instruction in the cause, of the events taken.
+    /// For each thread the least number of an instruction in the cause, of the events taken.
     pub least: [Option<usize>; THREADS],
-    // The ends of the run in the events taken, the last one first.
+    /// The ends of the run in the events taken, the last one first.
     pub ends: Vec<Event>,
 }
 
 impl BackwardSlice {
-    // The slice at the end of a run with these events, before any is taken.
+    /// The slice of a run with these events where it has taken none of them yet, and is to take the
+    /// last one next. For each thread and variable it counts all uses in the run.
     pub fn at_end(alloc: Global, program: &Program, events: &[Event]) -> BackwardSlice
         requires { All (IsValidEvent program.now) events.now }
         ensures { IsWanted events.now [] result }
@@ -66,24 +67,25 @@ impl BackwardSlice {
         }
     }
 
-    // Whether an event, the next one to be taken, is in the cause of how the run ended: whether it
-    // is an end of the run, or a later event of the cause depends on it.
+    /// Whether an event, the next one going back, is in the cause: whether it is an end of the run,
+    /// or a later event of the cause depends on it, for its value, as a test, as a write between
+    /// two uses of the variable by another thread, or as a direct cause of an end.
     pub fn needs(&self, program: &Program, event: &Event) -> bool
         requires { IsValidEvent program.now event.now }
         ensures { result ≡ needs program.now self.now event.now }
     {
         program.keeps_limits();
         event.is_end()
-            || self.is_read_from(event.variable_written())
+            || self.is_write_read(event.variable_written())
             || self.is_assignment_used(event.thread, event.local_set())
             || self.is_deciding_test(program, event)
             || self.interferes(event.thread, event.variable_written())
             || self.is_direct_cause_of_end(program, event)
     }
 
-    // Whether an event of the cause reads the value that the next event to be taken wrote to a
-    // variable, `written`; false where it wrote none.
-    fn is_read_from(&self, written: Option<usize>) -> bool
+    // Whether an event of the cause reads the value that the next event, going back, wrote to the
+    // variable `written`; false where it wrote no variable.
+    fn is_write_read(&self, written: Option<usize>) -> bool
         requires { IfSome written (λ x. x < VARIABLES) }
         ensures { result ≡ found self.now.read written }
     {
@@ -93,8 +95,8 @@ impl BackwardSlice {
         }
     }
 
-    // Whether an event of the cause uses the value that the next event to be taken, one of this
-    // thread, gave local `set`; false where it set none.
+    // Whether an event of the cause uses the value that the next event, going back, gave the local
+    // `set` of this thread; false where it set no local.
     fn is_assignment_used(&self, thread: u8, set: Option<usize>) -> bool
         requires thread { thread < THREADS }
         requires local { IfSome set (λ r. r < LOCALS) }
@@ -106,9 +108,9 @@ impl BackwardSlice {
         }
     }
 
-    // Whether an event, the next one to be taken, is a test on which the cause may depend: whether
-    // some later event of its thread is in the cause, and its instruction is not after the one at
-    // which the branches of the test merge.
+    // Whether an event, the next one going back, is a test on which the cause may depend: whether
+    // some later event of its thread is in the cause, at the instruction at which the branches of
+    // the test merge or at one before it.
     fn is_deciding_test(&self, program: &Program, event: &Event) -> bool
         requires { IsValidEvent program.now event.now }
         ensures { result ≡ decides_by program.now event.now
@@ -124,9 +126,9 @@ impl BackwardSlice {
         }
     }
 
-    // Whether the next event to be taken, one of this thread, writes a variable, `written`, between
-    // two uses of the variable by another thread, the second of which, its next, is in the cause.
-    // False where the event wrote none.
+    // Whether the next event, going back, by which this thread writes the variable `written`, is
+    // between two successive uses of the variable by another thread, the later of which is in the
+    // cause. False where the event writes no variable.
     fn interferes(&self, thread: u8, written: Option<usize>) -> bool
         requires { IfSome written (λ x. x < VARIABLES) }
         ensures { result ≡ is_missed_in self.now thread written }
@@ -137,8 +139,8 @@ impl BackwardSlice {
         }
     }
 
-    // Whether a write of a variable by a thread, as the next event to be taken, is between two uses
-    // of the variable by some other thread, the second of which, its next, is in the cause.
+    // Whether a write of a variable by a thread, as the next event going back, is between two
+    // successive uses of the variable by some other thread, the later of which is in the cause.
     fn interferes_with_some(&self, thread: usize, variable: usize) -> bool
         requires { variable < VARIABLES }
         ensures { result ≡ any_below (is_missed_by_in self.now thread variable) THREADS }
@@ -151,9 +153,9 @@ impl BackwardSlice {
         false
     }
 
-    // Whether a write of a variable by a thread, as the next event to be taken, is between two uses
-    // of the variable by thread `other`, the second of which, its next, is in the cause. False of a
-    // thread's own writes.
+    // Whether a write of a variable by a thread, as the next event going back, is between two
+    // successive uses of the variable by thread `other`, the later of which is in the cause. False
+    // where `other` is the thread that writes.
     fn interferes_with(&self, thread: usize, variable: usize, other: usize) -> bool
         requires variable { variable < VARIABLES }
         requires other { other < THREADS }
@@ -162,8 +164,8 @@ impl BackwardSlice {
         other != thread && self.next[other][variable] && self.uses[other][variable] > 0
     }
 
-    // Whether an event, the next one to be taken, is a direct cause of a later end of the run, for
-    // what it does to the object at which a thread stopped, or for which one waits.
+    // Whether an event, the next one going back, is a direct cause of a later end of the run: of
+    // an event by which a thread stopped at a mutex or a semaphore, or is blocked.
     fn is_direct_cause_of_end(&self, program: &Program, event: &Event) -> bool
         requires { IsValidEvent program.now event.now }
         ensures { result ≡ list_any (λ end. asks_for program.now end event.now)
@@ -174,8 +176,9 @@ impl BackwardSlice {
             .any(|end| is_direct_cause(program, end, event))
     }
 
-    // Takes the next event of the run, the one before those taken so far. Whether the event is in
-    // the cause is `needed`.
+    /// Takes an event into the slice, the next one going back. `needed` says whether it is in the
+    /// cause: then what it reads and uses is needed, too. In any case its use of a variable is no
+    /// more before the events taken, and it is noted if it is an end.
     pub fn take_event(&mut self, event: &Event, needed: bool) -> Result<(), AllocError>
         requires thread { event.now.thread < THREADS }
         requires inside { IfSome (variable_used event.now.statement) (λ x. x < VARIABLES) }
@@ -190,12 +193,13 @@ impl BackwardSlice {
         update_next(&mut self.next[thread], used, needed);
         uncount_use(&mut self.uses[thread], used);
         self.least[thread] = least_with(self.least[thread], event.instruction, needed);
-        put_end(&mut self.ends, event)
+        push_if_end(&mut self.ends, event)
     }
 }
 
-// Updates `read` for an event that is taken: for each variable whether an event of the cause reads
-// the value that it has before the events taken. Whether this event is in the cause is `needed`.
+// Updates `read`, which says for each variable whether an event of the cause reads the value that
+// the variable has at a point of the run: from the point after `event` to the one before it.
+// `needed` says whether `event` is in the cause.
 fn update_read(read: &mut [bool; VARIABLES], event: &Event, needed: bool)
     ensures { (x : ℕ) → x < VARIABLES → slice_index_or read.new x false
         ≡ ((needed && reads x event.now)
@@ -204,36 +208,36 @@ fn update_read(read: &mut [bool; VARIABLES], event: &Event, needed: bool)
     let reads = event.variable_read();
     let writes = event.variable_written();
     for x in 0..VARIABLES {
-        read[x] = needed && is_in_option(x, reads) || !is_in_option(x, writes) && read[x];
+        read[x] = needed && is_some_of(x, reads) || !is_some_of(x, writes) && read[x];
     }
 }
 
-// Updates `used` for an event of a thread that is taken: for each local of the thread whether an
-// event of the cause uses the value that it has before the events taken. Whether this event is in
-// the cause is `needed`.
+// Updates `used`, which says for each local of the event's thread whether an event of the cause
+// uses the value that the local has at a point of the run: from the point after `event` to the one
+// before it. `needed` says whether `event` is in the cause.
 fn update_used(used: &mut [bool; LOCALS], event: &Event, needed: bool)
     ensures { (r : ℕ) → r < LOCALS → slice_index_or used.new r false
         ≡ ((needed && uses_value r event.now.statement)
         || (not (is r (local_set event.now.statement)) && slice_index_or used.old r false)) }
 {
     for r in 0..LOCALS {
-        used[r] = is_used_from(event, r, needed, used[r]);
+        used[r] = is_local_used(event, r, needed, used[r]);
     }
 }
 
-// Whether an event of the cause uses the value that a local has before `event`, one of the local's
-// thread. Whether this event is in the cause is `needed`; `after` is the answer for the value after
-// it.
-fn is_used_from(event: &Event, local: usize, needed: bool, after: bool) -> bool
+// Whether an event of the cause uses the value that a local of the thread of `event` has before
+// `event`. `needed` says whether `event` is in the cause, `after` whether an event of the cause
+// uses the value that the local has after `event`.
+fn is_local_used(event: &Event, local: usize, needed: bool, after: bool) -> bool
     ensures { result ≡ ((needed && uses_value local event.now.statement)
         || (not (is local (local_set event.now.statement)) && after)) }
 {
-    needed && reads(local, &event.statement) || !is_in_option(local, event.local_set()) && after
+    needed && reads(local, &event.statement) || !is_some_of(local, event.local_set()) && after
 }
 
-// Updates `next` for an event of a thread that is taken: for each variable whether the thread's
-// next use of it is in the cause. The event uses variable `used`, if any, and is in the cause if
-// `needed`.
+// Updates `next`, which says of each variable whether a thread's next use of it is in the cause, by
+// going back over an event of the thread: `used` is the variable that the event uses, if any, and
+// `needed` says whether the event is in the cause.
 fn update_next(next: &mut [bool; VARIABLES], used: Option<usize>, needed: bool)
     requires { IfSome used (λ x. x < VARIABLES) }
     ensures { (x : ℕ) → x < VARIABLES → slice_index_or next.new x false
@@ -244,7 +248,7 @@ fn update_next(next: &mut [bool; VARIABLES], used: Option<usize>, needed: bool)
     }
 }
 
-// Counts one more use of a variable in a thread's `uses` of each variable; none for `None`.
+// Adds one to the number of uses of the variable `used` in `uses`; changes nothing for `None`.
 fn count_use(uses: &mut [usize; VARIABLES], used: Option<usize>)
     requires inside { IfSome used (λ x. x < VARIABLES) }
     requires few { IfSome used (λ x. slice_index_or uses.old x 0 + 1 < 2 ^ 64) }
@@ -256,7 +260,7 @@ fn count_use(uses: &mut [usize; VARIABLES], used: Option<usize>)
     }
 }
 
-// Counts one use less of a variable in a thread's `uses` of each variable; none for `None`.
+// Takes one from the number of uses of the variable `used` in `uses`; changes nothing for `None`.
 fn uncount_use(uses: &mut [usize; VARIABLES], used: Option<usize>)
     requires inside { IfSome used (λ x. x < VARIABLES) }
     requires some { IfSome used (λ x. 0 < slice_index_or uses.old x 0) }
@@ -268,13 +272,13 @@ fn uncount_use(uses: &mut [usize; VARIABLES], used: Option<usize>)
     }
 }
 
-// The least number of a thread's instructions in the cause: `least` is that so far, none for
-// `None`, and `instruction` counts too if `needed`.
+// The least number of a thread's instructions in the cause: `least` is the least one without
+// `instruction`, and `needed` says whether that is in the cause. `None` where none is.
 fn least_with(least: Option<usize>, instruction: usize, needed: bool) -> Option<usize>
     ensures { result ≡ least_with least instruction needed }
 {
     if needed {
-        Some(lesser(least, instruction))
+        Some(min_or(least, instruction))
     } else {
         least
     }
@@ -282,7 +286,7 @@ fn least_with(least: Option<usize>, instruction: usize, needed: bool) -> Option<
 
 // Adds an event to the ends of a run, if the event is one: if its thread stops in it in an error,
 // or is blocked at the end of the run.
-fn put_end(ends: &mut Vec<Event>, event: &Event) -> Result<(), AllocError>
+fn push_if_end(ends: &mut Vec<Event>, event: &Event) -> Result<(), AllocError>
     ensures { OnOk result (ends.new.items ≡ ends_with ends.old.items event.now) }
 {
     if event.is_end() {
@@ -292,7 +296,7 @@ fn put_end(ends: &mut Vec<Event>, event: &Event) -> Result<(), AllocError>
 }
 
 // The lesser of the numbers of two instructions; `instruction` where `least` is `None`.
-fn lesser(least: Option<usize>, instruction: usize) -> usize
+fn min_or(least: Option<usize>, instruction: usize) -> usize
     ensures { result ≡ lesser least instruction }
 {
     match least {
@@ -301,9 +305,9 @@ fn lesser(least: Option<usize>, instruction: usize) -> usize
     }
 }
 
-// The number of the instruction at which the branches of a jump merge: the first after all
-// instructions that the jump passes over, and that the jumps among those pass over. All jumps go
-// forwards.
+// The number of the instruction at which the branches of the jump of number `instruction` merge:
+// the first after all instructions that this jump passes over, and that the jumps among those pass
+// over; the length of the code where they merge at its end. All jumps go forwards.
 fn merge_point(code: &[Instruction], instruction: usize) -> usize
     requires short { length code.now < 2 ^ 32 }
     requires jumps { JumpsWithin code.now }

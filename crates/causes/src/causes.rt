@@ -24,8 +24,8 @@ pub struct Causes {
 }
 
 impl Causes {
-    /// The events of the run that an explanation tells, and which of them are in the cause of how
-    /// it ended.
+    /// The events of the run of `program` that an explanation tells, which of them are in the cause
+    /// of how it ended, and in which one a thread first stopped in an error.
     ///
     /// # Errors
     ///
@@ -67,7 +67,7 @@ impl Causes {
 
     /// For each step, in order, whether an event of the step, or of the local run after it, is in
     /// the cause of how the run ended.
-    pub fn steps(&self) -> &[bool]
+    pub fn step_marks(&self) -> &[bool]
         ensures { result.now ≡ self.now.steps.items }
     {
         self.steps.as_slice()
@@ -102,7 +102,7 @@ fn marks_of(alloc: Global, program: &Program, events: &[Event]) -> Result<Vec<bo
 }
 
 // For each of `count` steps, in order, whether an event of the step, or of the local run after it,
-// is marked.
+// is marked. `marks` has the marks of the events.
 fn step_marks_of(
     alloc: Global,
     count: usize,
@@ -123,7 +123,7 @@ fn step_marks_of(
 }
 
 // The place of the step to which the event at place `at` belongs; `None` where the event isn't
-// marked, or belongs to no step.
+// marked in `marks`, or belongs to no step.
 fn marked_step(events: &[Event], marks: &[bool], at: usize) -> Option<usize>
     requires { at < length events.now }
     ensures { result ≡ (if slice_index_or marks.now at false then (event_at events.now at).step

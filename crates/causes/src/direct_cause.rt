@@ -2,13 +2,13 @@
 
 ghost use Rattle.std.specs.Prelude.{◌≡◌};
 ghost use Rattle.std.specs.List.{list_any};
-ghost use Rattle.causes.specs.Asked.{asks_for, could_end, is_asked_of_owner, is_by_owner, is_not_before, is_taking_step, passes_by, shares_object};
+ghost use Rattle.causes.specs.Asked.{asks_for, could_end, is_asked_of_owner, is_by_owner, is_not_before, took_mutex, passes_by, shares_object};
 ghost use Rattle.causes.specs.inner.Wanting.{IsValidEvent};
 
 use crate::event::{Deed, Event};
 use explain::{Holder, Reason};
 use guest_code::program::{Instruction, Program};
-use lint::uses::{Use, is_in_option};
+use lint::uses::{Use, is_some_of};
 
 /// Whether an earlier event is a direct cause of `end`, by which a thread stopped or is blocked at
 /// the end of the run:
@@ -31,11 +31,11 @@ pub fn is_direct_cause(program: &Program, end: &Event, event: &Event) -> bool
         Deed::Stepped(_, Some(_)) => shares_object(&end.statement, &event.statement),
         Deed::Blocked(Reason::Signal(c), _) => {
             Use::OfCondition.is_made(c, &event.statement)
-                || event.thread != end.thread && passes_by(program, event, Reason::Signal(c))
+                || event.thread != end.thread && skips_unblocking(program, event, Reason::Signal(c))
         }
         Deed::Blocked(Reason::Acquire(k), _) => {
             Use::OfSemaphore.is_made(k, &event.statement)
-                || passes_by(program, event, Reason::Acquire(k))
+                || skips_unblocking(program, event, Reason::Acquire(k))
         }
         Deed::Blocked(reason, holder) => is_direct_cause_by_owner(program, reason, holder, event),
     }
@@ -56,15 +56,15 @@ fn is_direct_cause_by_owner(
     match holder {
         None => false,
         Some(holder) => {
-            is_taking_step(holder, event)
-                || is_by_owner_since(holder, event) && passes_by(program, event, reason)
+            took_mutex(holder, event)
+                || is_by_owner_since(holder, event) && skips_unblocking(program, event, reason)
         }
     }
 }
 
 // Whether `statement` names the mutex or the semaphore of `stopped`, the statement at which a
 // thread stopped: an `unlock` or a `wait` of a mutex that it didn't own, or a `release` of a full
-// semaphore.
+// semaphore. False for any other `stopped`.
 fn shares_object(stopped: &Instruction, statement: &Instruction) -> bool
     ensures { result ≡ shares_object stopped.now statement.now }
 {
@@ -77,10 +77,10 @@ fn shares_object(stopped: &Instruction, statement: &Instruction) -> bool
 }
 
 // Whether an event is the step by which `holder`, the owner of a mutex, took the mutex.
-fn is_taking_step(holder: Holder, event: &Event) -> bool
-    ensures { result ≡ is_taking_step holder event.now }
+fn took_mutex(holder: Holder, event: &Event) -> bool
+    ensures { result ≡ took_mutex holder event.now }
 {
-    event.is_step() && is_in_option(holder.since, event.step)
+    event.is_step() && is_some_of(holder.since, event.step)
 }
 
 // Whether an event is one of the thread that owns a mutex, `holder`, in the step by which it took
@@ -91,7 +91,7 @@ fn is_by_owner_since(holder: Holder, event: &Event) -> bool
     event.thread == holder.thread && is_not_before(holder.since, event.step)
 }
 
-// Whether an event's step, if it has one, is at place `since` of the schedule or at a later place.
+// Whether an event's step, at place `step`, is at place `since` or later; false where it has none.
 fn is_not_before(since: usize, step: Option<usize>) -> bool
     ensures { result ≡ is_not_before since step }
 {
@@ -102,27 +102,27 @@ fn is_not_before(since: usize, step: Option<usize>) -> bool
 }
 
 // Whether an event is a jump of its thread over a statement that could end a wait for this reason.
-fn passes_by(program: &Program, event: &Event, reason: Reason) -> bool
+fn skips_unblocking(program: &Program, event: &Event, reason: Reason) -> bool
     requires { IsValidEvent program.now event.now }
     ensures { result ≡ passes_by program.now event.now reason }
 {
     let rest = &program.code(event.thread)[event.instruction + 1..];
-    some_could_end(reason, &rest[..event.jump().min(rest.len())])
+    any_could_end_wait(reason, &rest[..event.jump_length().min(rest.len())])
 }
 
 // Whether one of these statements could end a wait for this reason.
-fn some_could_end(reason: Reason, statements: &[Instruction]) -> bool
+fn any_could_end_wait(reason: Reason, statements: &[Instruction]) -> bool
     ensures { result ≡ list_any (could_end reason) statements.now }
 {
     statements
         .iter()
-        .any(|statement| could_end(reason, statement))
+        .any(|statement| could_end_wait(reason, statement))
 }
 
 // Whether a statement could end a wait for this reason: for a mutex an `unlock`, for a condition a
 // `signal` or `broadcast`, for a semaphore a `release` of it. A `wait` doesn't count as an
 // `unlock`.
-fn could_end(reason: Reason, statement: &Instruction) -> bool
+fn could_end_wait(reason: Reason, statement: &Instruction) -> bool
     ensures { result ≡ could_end reason statement.now }
 {
     match (reason, statement) {

@@ -47,7 +47,8 @@ impl Event {
         uses::local_set(&self.statement)
     }
 
-    /// The value that the event gives a local, or that its expression has; 0 where it has neither.
+    /// The value that the event's step gives a local, as 1 or 0 for a `cas` that hits or misses; in
+    /// a local run the value of the statement's expression; 0 for any other event.
     pub fn value(&self) -> i64
         ensures { result ≡ value_by self.now.deed }
     {
@@ -115,7 +116,7 @@ impl Event {
 
     /// How many of the next instructions of its thread the event jumps over; 0 where it is no jump,
     /// or a test that holds.
-    pub fn jump(&self) -> usize
+    pub fn jump_length(&self) -> usize
         ensures { result ≡ jump_by self.now.statement self.now.deed }
     {
         match (self.statement, self.deed) {

@@ -23,7 +23,7 @@ use std::alloc::{AllocError, Global};
 
 /// The events of the run that an explanation tells, in their order: those of the local runs before
 /// the first step, thread by thread; then each step, followed by the events of its local run; then,
-/// where no thread stopped, that a thread is blocked, for each thread that is.
+/// where no thread stopped, one event for each thread that is blocked.
 ///
 /// # Errors
 ///
@@ -41,9 +41,9 @@ pub fn events_of(
         locals: [[0; LOCALS]; THREADS],
     };
     log.put_initial_runs(program)?;
-    log.put_steps(program, explanation.steps())?;
-    if !some_stopped(explanation.thread_states()) {
-        put_blocked(
+    log.put_all_step_events(program, explanation.steps())?;
+    if !any_stopped(explanation.thread_states()) {
+        put_blocked_events(
             &mut log.events,
             program,
             explanation.holders(),
@@ -89,8 +89,9 @@ impl EventLog {
         Ok(())
     }
 
-    // Adds, step by step, the event of each step and those of the local run after it.
-    fn put_steps(&mut self, program: &Program, steps: &[Step]) -> Result<(), AllocError>
+    // Adds, step by step, the event of each step and those of the local run after it; nothing for a
+    // step of a thread that the program doesn't have.
+    fn put_all_step_events(&mut self, program: &Program, steps: &[Step]) -> Result<(), AllocError>
         ensures { OnOk result (self.new.events.items
             ≡ self.old.events.items ++ events_from program.now self.old.locals 0 steps.now) }
     {
@@ -98,15 +99,21 @@ impl EventLog {
         for (at, step) in steps.iter().enumerate() {
             let thread = step.line.thread;
             if thread < program.threads() {
-                self.put_step(program.code(thread), at, step)?;
+                self.put_step_events(program.code(thread), at, step)?;
             }
         }
         Ok(())
     }
 
     // Adds the event of the step at place `at` of the schedule, and those of the local run after
-    // it.
-    fn put_step(&mut self, code: &[Instruction], at: usize, step: &Step) -> Result<(), AllocError>
+    // it, which there is unless the thread stays at the step's instruction. Nothing where `code`,
+    // the thread's code, doesn't have that instruction.
+    fn put_step_events(
+        &mut self,
+        code: &[Instruction],
+        at: usize,
+        step: &Step,
+    ) -> Result<(), AllocError>
         requires valid { (p : Program) × IsValidCode p code.now }
         requires thread { step.now.line.thread < THREADS }
         ensures events { OnOk result (self.new.events.items ≡ self.old.events.items
@@ -172,8 +179,8 @@ fn instruction_at(code: &[Instruction], number: usize) -> Option<Instruction>
     code.get(number).copied()
 }
 
-// Whether one of the threads in these states has stopped in an error.
-fn some_stopped(thread_states: &[ThreadState]) -> bool
+// Whether a thread has stopped in an error, by the states of all threads.
+fn any_stopped(thread_states: &[ThreadState]) -> bool
     ensures { result ≡ list_any (λ s. is_stopped s.status) thread_states.now }
 {
     thread_states
@@ -194,8 +201,8 @@ fn visible_event(at: usize, step: &Step, statement: Instruction) -> Event
     }
 }
 
-// Why a thread stopped at the statement of its step, where `stop` is why it had stopped after the
-// step and its local run. `None` where it hadn't, or at an assertion, which is in the local run.
+// Why a thread stopped at the statement of its step, where `stop` is why it stopped in the step or
+// in the local run after it. `None` where it didn't stop, or stopped at an `assert` of that run.
 fn stop_in_step(stop: Option<Stop>) -> Option<Stop>
     ensures { result ≡ stop_in_step stop }
 {
@@ -205,7 +212,7 @@ fn stop_in_step(stop: Option<Stop>) -> Option<Stop>
     }
 }
 
-// Gives the local that an event sets, if it sets one, its new value in the locals of its thread.
+// Gives the local that an event sets, if any, its new value in `locals`, those of its thread.
 fn set_local(locals: &mut [i64; LOCALS], event: &Event)
     requires { (p : Program) × IsValid p event.now.statement }
     ensures { locals.new
@@ -216,8 +223,8 @@ fn set_local(locals: &mut [i64; LOCALS], event: &Event)
     }
 }
 
-// Adds the events of a local run of a thread with this code, and gives the locals that it sets
-// their new values.
+// Adds the events of `run`, a local run of a thread with this code, and gives the locals of the
+// thread that it sets their new values.
 fn put_local_events(
     events: &mut Vec<Event>,
     code: &[Instruction],
@@ -244,9 +251,9 @@ fn put_local_events(
     Ok(())
 }
 
-// Adds the event of an instruction of a local run, the one of number `at`, and sets its local, if
-// any. The answer is how many of the next instructions are jumped over; `None` where the local run
-// ends: before a visible statement, of which nothing is added, or after an assertion that failed.
+// Adds the event of `statement`, the instruction of number `at`, as the next one of a local run,
+// and sets its local, if any. The answer is how many instructions it jumps over; `None` where the
+// run ends: before a visible statement, which adds nothing, or after an assertion that failed.
 fn put_local_event(
     events: &mut Vec<Event>,
     statement: &Instruction,
@@ -281,11 +288,12 @@ fn put_local_event(
     if event.stop().is_some() {
         return Ok(None);
     }
-    Ok(Some(event.jump()))
+    Ok(Some(event.jump_length()))
 }
 
-// Adds, in the order of threads, the event of each thread that is blocked at the end of the run.
-fn put_blocked(
+// Adds, in the order of threads, an event for each thread that is blocked at the end of the run.
+// `holders` are the owners of all mutexes there, `thread_states` the states of all threads.
+fn put_blocked_events(
     events: &mut Vec<Event>,
     program: &Program,
     holders: &[Option<Holder>],
@@ -295,7 +303,10 @@ fn put_blocked(
         ++ blocked_from program.now holders.now thread_states.now 0 (length program.now.threads)) }
 {
     for thread in 0..program.threads() {
-        push_if_some(events, blocked_at(program, holders, thread_states, thread))?;
+        push_if_some(
+            events,
+            blocked_event(program, holders, thread_states, thread),
+        )?;
     }
     Ok(())
 }
@@ -310,8 +321,10 @@ fn push_if_some(events: &mut Vec<Event>, event: Option<Event>) -> Result<(), All
     Ok(())
 }
 
-// The event by which a thread is blocked at the end of the run; `None` where this thread isn't.
-fn blocked_at(
+// The event that a thread is blocked at the end of the run. `thread_states` says whether and why it
+// is, `holders` who owns the mutex if it waits for one. `None` where the thread isn't blocked, or
+// its state or its instruction isn't there.
+fn blocked_event(
     program: &Program,
     holders: &[Option<Holder>],
     thread_states: &[ThreadState],
@@ -332,8 +345,8 @@ fn blocked_at(
     })
 }
 
-// The owner of a mutex, and since which step, by the owners of all mutexes. `None` where no mutex
-// is given, or nobody owns it.
+// The owner of a mutex, and since which step, by `holders`, the owners of all mutexes. `None` where
+// no mutex is given, or `holders` has no owner of it.
 fn owner_for(holders: &[Option<Holder>], mutex: Option<usize>) -> Option<Holder>
     ensures { result ≡ owner_for holders.now mutex }
 {

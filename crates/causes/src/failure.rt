@@ -35,16 +35,16 @@ pub fn failure_of(steps: &[Step], events: &[Event]) -> Option<Failure>
                 event,
                 thread: events[event].thread,
                 step,
-                preemptions: preemptions_in(&steps[..steps_up_to(step, steps.len())]),
+                preemptions: count_preemptions(&steps[..count_steps_up_to(step, steps.len())]),
             });
         }
     }
     None
 }
 
-// How many of a run's steps, which are `all`, lie up to the step at a place, that one included; 0
-// for `None`, which is before the first step.
-fn steps_up_to(step: Option<usize>, all: usize) -> usize
+// How many of a run's `all` steps are at place `step` or before it: all where the place is past
+// them, 0 for `None`, which is before the first step.
+fn count_steps_up_to(step: Option<usize>, all: usize) -> usize
     ensures { result ≡ min (steps_up_to step) all }
 {
     match step {
@@ -54,8 +54,8 @@ fn steps_up_to(step: Option<usize>, all: usize) -> usize
     }
 }
 
-// How many of these steps were preemptions.
-fn preemptions_in(steps: &[Step]) -> usize
+// How many of these steps are preemptions.
+fn count_preemptions(steps: &[Step]) -> usize
     ensures { result ≡ count_by (λ s. s.line.preempting) steps.now }
 {
     let mut preemptions = 0;

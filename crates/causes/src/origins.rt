@@ -7,13 +7,13 @@ ghost use Rattle.causes.specs.Origins.{IsLastBefore, IsTakenAt, gives_by, has_ro
 
 use crate::causes::Causes;
 use crate::event::{Deed, Event};
-use lint::uses::is_in_option;
+use lint::uses::is_some_of;
 use replay::Act;
 
 impl Causes {
     /// The place of the last event before place `at` by which a thread set a local; `None` where
     /// the local is still 0 there, as at the start.
-    pub fn setter(&self, at: usize, thread: u8, local: usize) -> Option<usize>
+    pub fn last_assignment(&self, at: usize, thread: u8, local: usize) -> Option<usize>
         ensures { MatchOption result (NoneOf self.now.events.items (sets_local thread local) 0 at)
             (IsLastBefore self.now.events.items (sets_local thread local) at) }
     {
@@ -22,16 +22,16 @@ impl Causes {
 
     /// The place of the last event before place `at` that wrote a variable; `None` where the
     /// variable still has its initial value there.
-    pub fn writer(&self, at: usize, variable: usize) -> Option<usize>
+    pub fn last_write(&self, at: usize, variable: usize) -> Option<usize>
         ensures { MatchOption result (NoneOf self.now.events.items (writes variable) 0 at)
             (IsLastBefore self.now.events.items (writes variable) at) }
     {
         last_before(self.events(), at, EventRole::Writer(variable))
     }
 
-    /// The place of the event by which the thread that owns a mutex right before place `at` took
-    /// it; `None` where nobody owns the mutex there.
-    pub fn taker(&self, at: usize, mutex: usize) -> Option<usize>
+    /// The place of the event since which a mutex is owned, right before place `at`: the event by
+    /// which its owner took it. `None` where nobody owns the mutex there.
+    pub fn owned_since(&self, at: usize, mutex: usize) -> Option<usize>
         ensures { MatchOption result
             ((k : ℕ) → ¬ IsTakenAt self.now.events.items mutex at k)
             (IsTakenAt self.now.events.items mutex at) }
@@ -57,15 +57,15 @@ pub enum EventRole {
 }
 
 impl EventRole {
-    // Whether an event has this role.
+    // Whether an event does this: sets the local, writes the variable, takes or releases the mutex.
     fn matches(self, event: &Event) -> bool
         ensures { result ≡ has_role self event.now }
     {
         match self {
             EventRole::Setter(thread, local) => {
-                event.thread == thread && is_in_option(local, event.local_set())
+                event.thread == thread && is_some_of(local, event.local_set())
             }
-            EventRole::Writer(variable) => is_in_option(variable, event.variable_written()),
+            EventRole::Writer(variable) => is_some_of(variable, event.variable_written()),
             EventRole::OwnerChanger(mutex) => takes_mutex(event.deed, mutex)
                 || releases_mutex(event.deed, mutex),
         }
@@ -88,8 +88,8 @@ fn last_before(events: &[Event], at: usize, sought: EventRole) -> Option<usize>
     None
 }
 
-// Whether what happens in an event is that its thread takes a mutex, by a `lock` or as the second
-// step of a `wait`.
+// Whether a thread takes this mutex by what happens in an event: by a `lock`, or by the second step
+// of a `wait`.
 fn takes_mutex(deed: Deed, mutex: usize) -> bool
     ensures { result ≡ takes_by mutex deed }
 {
@@ -99,8 +99,8 @@ fn takes_mutex(deed: Deed, mutex: usize) -> bool
     }
 }
 
-// Whether what happens in an event is that its thread releases a mutex, by an `unlock` or as the
-// first step of a `wait`, and doesn't stop there since it doesn't own the mutex.
+// Whether a thread releases this mutex by what happens in an event: by an `unlock`, or by the first
+// step of a `wait`. False where the thread stops there, since it doesn't own the mutex.
 fn releases_mutex(deed: Deed, mutex: usize) -> bool
     ensures { result ≡ gives_by mutex deed }
 {

@@ -33,7 +33,7 @@ prefixes_of mode p (suc n) = flat_map (further mode) (prefixes_of mode p n)
 abbrev pub IsComplete : ItemView → Type 0
 IsComplete i = is_terminal i.program (state_of i) ≡ true
 
--- the prefixes of the least length at which there are so many at least, or at which all are
+-- the prefixes of the least length at which there are `at_least`, or more, or at which all are
 -- complete schedules
 pub record IsListOf (mode : Mode) (p : Program) (at_least : ℕ) (items : List ItemView) :
     Type 0 where

@@ -10,7 +10,7 @@ ghost use Rattle.cover.specs.Prefixes.{is_entered, longer, further, IsComplete};
 
 use items::item::Item;
 use items::mode::Mode;
-use schedules::independence::sleepers_after;
+use schedules::independence::sleep_set_after;
 use semantics::mask::Mask;
 use semantics::state::State;
 use std::alloc::{AllocError, Global};
@@ -35,7 +35,7 @@ fn is_entered(mode: Mode, item: &Item, thread: u8) -> bool
 {
     match mode {
         Mode::Bounded(_) => true,
-        Mode::Reduced => !item.mask().contains(thread),
+        Mode::Reduced => !item.mask().has(thread),
     }
 }
 
@@ -51,7 +51,7 @@ fn sleepers(mode: Mode, item: &Item, state: &State, thread: u8) -> Mask
         Mode::Bounded(_) => Mask::empty(),
         Mode::Reduced => {
             let enabled = state.enabled(item.program());
-            sleepers_after(item.program(), state, enabled, item.mask(), thread)
+            sleep_set_after(item.program(), state, enabled, item.mask(), thread)
         }
     }
 }
@@ -79,8 +79,9 @@ fn push_children(
     Ok(())
 }
 
-/// Appends the children of `item` to `items`: the items one step longer, in the order of the
-/// threads; or `item` itself, where its prefix is a complete schedule. Answers whether it is one.
+/// Appends the children of `item` to `items`: the items one step longer that a search in this mode
+/// enters, in the order of the threads; or `item` itself, where its prefix is a complete schedule.
+/// Answers whether it is one.
 ///
 /// # Errors
 ///
@@ -113,8 +114,9 @@ pub struct Layer {
     pub is_last: bool,
 }
 
-/// The layer that is one step longer than that of these items: each item is replaced by its
-/// children, or stays where its prefix is a complete schedule. It is the last layer where all stay.
+/// The layer one step longer than that of these items: each item is replaced by the children that a
+/// search in this mode enters, or stays if it is a complete schedule's. It is the last layer if all
+/// stay.
 ///
 /// # Errors
 ///

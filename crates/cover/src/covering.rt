@@ -48,8 +48,8 @@ impl From<AllocError> for CoverError {
 
 /// The items of these prefixes, in any order, where the prefixes cover the program: each complete
 /// schedule of the program begins with exactly one of them, and each of them begins some schedule.
-/// With sleep sets (`Reduced`) only the schedules and the prefixes count that they leave. A prefix
-/// that is given twice counts once.
+/// With sleep sets (`Reduced`) only the schedules that these leave count. A prefix that is given
+/// twice counts once.
 ///
 /// # Errors
 ///
@@ -73,13 +73,13 @@ pub fn cover_by(
             Some(error) => Err(error),
             None => Ok(items),
         },
-        Err(bare) => Err(missing_error(alloc, &bare, prefixes)?),
+        Err(bare) => Err(uncovered_error(alloc, &bare, prefixes)?),
     }
 }
 
-// Goes through the tree of schedules from `root` down to the prefixes that are listed: `Ok` with
-// the items of the listed prefixes that it reached, where each schedule begins with one of these;
-// `Err` with the item of a complete schedule that begins with no listed prefix, where it met one.
+// Goes through the tree of schedules from `root` down to `prefixes`: `Ok` with the items of the
+// prefixes that it reached, where each schedule begins with one of them; `Err` with the item of a
+// complete schedule, where it met one that begins with none of `prefixes`.
 fn covering_items(
     alloc: Global,
     mode: Mode,
@@ -165,32 +165,32 @@ fn nested_or_unused(alloc: Global, items: &[Item], prefix: &[u8]) -> Result<Cove
 // The error where the prefix of `item` is a complete schedule that begins with none of `prefixes`:
 // `Missing` with the shortest beginning of the schedule with which none of `prefixes` begins; where
 // one is longer than the schedule and begins with it, `Unused` with that one.
-fn missing_error(alloc: Global, item: &Item, prefixes: &[&[u8]]) -> Result<CoverError, AllocError>
+fn uncovered_error(alloc: Global, item: &Item, prefixes: &[&[u8]]) -> Result<CoverError, AllocError>
     ensures { (p : Program) (mode : Mode) →
         IsBare mode p (map (λ x. x.now) prefixes.now) item.now →
         IfOk result (CoverErrorMeans mode p (map (λ x. x.now) prefixes.now)) }
 {
     let schedule = item.prefix();
     for steps in 0..schedule.len() {
-        if !has_under(prefixes, &schedule[..steps]) {
+        if !any_begins_with(prefixes, &schedule[..steps]) {
             return Ok(CoverError::Missing(schedule[..steps].to_vec(alloc)?));
         }
     }
-    match first_under(prefixes, schedule) {
+    match first_that_begins_with(prefixes, schedule) {
         Some(longer) => Ok(CoverError::Unused(longer.to_vec(alloc)?)),
         None => Ok(CoverError::Missing(schedule.to_vec(alloc)?)),
     }
 }
 
 // Whether one of `prefixes` begins with `prefix`.
-fn has_under(prefixes: &[&[u8]], prefix: &[u8]) -> bool
+fn any_begins_with(prefixes: &[&[u8]], prefix: &[u8]) -> bool
     ensures { result ≡ list_any (λ x. begins_with prefix.now x.now) prefixes.now }
 {
     prefixes.iter().any(|listed| is_prefix_of(prefix, listed))
 }
 
 // The first of `prefixes` that begins with `prefix`; `None` where none does.
-fn first_under<'a>(prefixes: &[&'a [u8]], prefix: &[u8]) -> Option<&'a [u8]>
+fn first_that_begins_with<'a>(prefixes: &[&'a [u8]], prefix: &[u8]) -> Option<&'a [u8]>
     ensures { result ≡ find (λ x. begins_with prefix.now x.now) prefixes.now }
 {
     prefixes

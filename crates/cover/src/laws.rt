@@ -28,8 +28,8 @@ pub fn each_schedule_begins_with_one_prefix()
         covers w items ≡ 1 }
 {}
 
-/// The sums of the items of a cover of a program join to the sum of the program, and those of a
-/// cover of an item to the sum of the item.
+/// The summaries of the items of a cover of a program join to the summary of all its schedules, and
+/// those of a cover of an item to the summary of the item's schedules.
 pub fn sums_over_a_cover_join()
     ensures program { (mode : Mode) (p : Program) (items : List ItemView) →
         IsCover mode (root_of p) items → whole p mode ≡ item_sums mode items }
@@ -37,14 +37,14 @@ pub fn sums_over_a_cover_join()
         IsCover mode item items → item_sum mode item ≡ item_sums mode items }
 {}
 
-/// The sum of an item whose prefix has more preemptions than the bound says that schedules are
-/// beyond the bound, and nothing else.
+/// The summary of the schedules of an item whose prefix has more preemptions than the bound says
+/// that schedules are beyond the bound, and nothing else.
 pub fn past_the_bound_nothing_is_summed()
     ensures { (i : ItemView) (bound : ℕ) → IsItem i → bound < preemptions i.program i.prefix →
         item_sum (Bounded bound) i ≡ with_beyond nothing true }
 {}
 
-/// An item that has no schedule beyond a bound has the same sum at each greater bound.
+/// An item with no schedule beyond a bound has the same summary of schedules at each greater bound.
 pub fn where_nothing_is_beyond_the_sum_stays()
     ensures { (i : ItemView) (b c : ℕ) → b ≤ c → (item_sum (Bounded b) i).beyond ≡ false →
         item_sum (Bounded c) i ≡ item_sum (Bounded b) i }
@@ -68,8 +68,9 @@ pub fn prefixes_of_a_length_are_a_cover()
         IsRising (map (λ i. i.prefix) (prefixes_of mode p n)) }
 {}
 
-/// The prefixes of a length are the schedules cut short at that length. Where all prefixes are
-/// complete they are all complete schedules; with sleep sets, all that these leave.
+/// Without sleep sets, the prefixes of a length are the schedules cut short at that length. Where
+/// each prefix is complete, they are the complete schedules of the program, or, with sleep sets,
+/// those that these leave.
 pub fn prefixes_are_schedules_cut_short()
     ensures cut { (p : Program) (bound n : ℕ) → IsWellFormed p →
         map (λ i. i.prefix) (prefixes_of (Bounded bound) p n) ≡ schedules_cut_at n p (start p) }
@@ -79,7 +80,7 @@ pub fn prefixes_are_schedules_cut_short()
 {}
 
 /// The prefixes of a length are the same at each bound, and a cover at one bound is one at each.
-pub fn one_bound_is_as_good_as_another()
+pub fn covers_are_the_same_at_each_bound()
     ensures prefixes { (p : Program) (a b n : ℕ) →
         prefixes_of (Bounded a) p n ≡ prefixes_of (Bounded b) p n }
     ensures cover { (a b : ℕ) (item : ItemView) (items : List ItemView) →

@@ -20,9 +20,10 @@ use std::sync::Arc;
 
 /// The items of a program's prefixes of one length, the least at which there are at least
 /// `at_least` of them, in the rising order of schedules; a complete schedule that is shorter is
-/// there as it is. Where there are never so many prefixes, they are all complete schedules.
-/// Prefixes with more preemptions than a mode's bound are there, too. With sleep sets (`Reduced`)
-/// only those are there that the search enters, each with the threads that sleep after it.
+/// there as it is. Where no length has this many, all prefixes are complete schedules, with at most
+/// `STEPS` steps. Prefixes with more preemptions than the mode's bound are there, too. With sleep
+/// sets (`Reduced`) only those are there that the search enters, each with the threads that sleep
+/// after it.
 ///
 /// The memory used is that of the list, of the list one step shorter, and of one state.
 ///

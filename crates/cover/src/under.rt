@@ -14,7 +14,7 @@ use guest_code::program::Program;
 use items::item::Item;
 use items::mode::Mode;
 use replay::ReplayError;
-use schedules::independence::sleepers_after;
+use schedules::independence::sleep_set_after;
 use semantics::mask::Mask;
 use semantics::state::State;
 use std::alloc::{AllocError, Global};
@@ -75,11 +75,11 @@ fn asleep_after(alloc: Global, program: &Program, prefix: &[u8]) -> Result<Optio
     let mut state = State::start(alloc, program)?;
     let mut asleep = Mask::empty();
     for thread in prefix {
-        if asleep.contains(*thread) {
+        if asleep.has(*thread) {
             return Ok(None);
         }
         let enabled = state.enabled(program);
-        asleep = sleepers_after(program, &state, enabled, asleep, *thread);
+        asleep = sleep_set_after(program, &state, enabled, asleep, *thread);
         state.step(program, *thread);
     }
     Ok(Some(asleep))

@@ -15,7 +15,7 @@ listing_mode true = Reduced
 listing_mode false = Bounded BOUND
 
 -- a line for each prefix of the program that the text spells, of the least length at which there
--- are so many at least
+-- are `at_least`, or more
 pub record IsListingOf (text : List ℕ) (is_pruned : Bool) (at_least : ℕ) (output : List ℕ) :
     Type 0 where
   pub program : Program

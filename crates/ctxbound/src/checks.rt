@@ -15,8 +15,9 @@ use std::fs;
 use std::fs::Files;
 use std::io::{Input, Write};
 
-/// Checks each file, and tells what is wrong or odd: lines for people on `err`, other forms on
-/// `out`. Answers the greatest of the files' statuses.
+/// Checks each file that a request names, and the guest programs in each folder, and tells what is
+/// wrong or odd: lines for people on `err`, other forms on `out`. Faults go to `err`, as where a
+/// file can't be read. Answers the greatest of the files' statuses.
 pub fn serve_check<H, W: Write, E: Write>(
     rt: &H,
     request: &CheckRequest,
@@ -47,7 +48,8 @@ where
     worst
 }
 
-// What a check prints of the text of a file, or why it prints nothing.
+// What a check prints of the text of a file, and the status; or that the file can't be read or
+// memory runs out.
 fn check_file<'a, H>(
     rt: &H,
     file: &'a GuestFile,
@@ -63,8 +65,8 @@ where
     Ok(check_text(rt.alloc(), text.as_slice(), name, request)?)
 }
 
-// Writes what was printed of a file, lines for people, to `err`, and answers its status. Where
-// several files are checked, the name of the file stands above its lines.
+// Writes the lines for people on a file that was checked to `err`, and answers its status. If
+// `several` files are checked, the name of the file stands above its lines, where it has any.
 fn write_lines<E: Write>(err: &mut E, file: &GuestFile, several: bool, printed: &Printed) -> u8 {
     let lines = printed.output.as_slice();
     // a failing stream changes no status
@@ -75,7 +77,7 @@ fn write_lines<E: Write>(err: &mut E, file: &GuestFile, several: bool, printed: 
     printed.status
 }
 
-/// What a check prints of the text of a file of the name `file`, and the status.
+/// Checks the text of a file of the name `file`, and answers what is printed, and the status.
 ///
 /// # Errors
 ///
@@ -129,9 +131,9 @@ pub fn checked_status(checked: &Checked, strict: bool) -> u8
     }
 }
 
-/// Whether `file` is the name of a plain file whose text is refused; false where it can't be read.
-/// The file may have been read before: standard input and pipes, which can't be read twice, aren't
-/// read.
+/// Whether `file` is the name of a plain file whose text is refused; false where it can't be read,
+/// or memory runs out. Standard input and pipes aren't read: they may have been read before, and
+/// can't be read twice.
 pub fn is_refused<H>(rt: &H, file: &str) -> bool
 where
     H: Files + Input + Alloc<A = Global>,

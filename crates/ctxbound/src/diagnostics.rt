@@ -1,4 +1,4 @@
-//! What a check tells, for editors: a line or a JSON object for each refusal and each warning.
+//! What a check tells, for editors: a line or a JSON object for each refusal, warning and remark.
 
 use advice::{Checked, Diagnostic, Span};
 use serde_json::{Map, Value, json, put};
@@ -6,10 +6,10 @@ use std::alloc::{AllocError, Global};
 use std::fmt::Write;
 use text_lines::Marks;
 
-/// A line for each refusal and each warning of a text that was read from this file: a JSON object,
-/// or `FILE:LINE:COLUMN: warning W5 NeverLoaded: MESSAGE`, where a refusal is an `error`, and what
-/// has no place is at line 1, column 1. Where a preprocessor's mark comes before the place, file
-/// and line are those that the mark says.
+/// A line for each refusal, warning and remark on a text that was read from this file: a JSON
+/// object if `is_json`, else `FILE:LINE:COLUMN: warning W5 NeverLoaded: MESSAGE`, where a refusal
+/// is an `error`, and what has no place is at line 1, column 1. Where a preprocessor's mark comes
+/// before the place, file and line are those that the mark says.
 ///
 /// # Errors
 ///
@@ -39,7 +39,8 @@ pub fn diagnostics_text(
 }
 
 // The line `FILE:LINE:COLUMN: warning W5 NeverLoaded: MESSAGE` of a diagnostic; a diagnostic that
-// has no place is at line 1, column 1.
+// has no place is at line 1, column 1. Where a preprocessor's mark comes before the place, file and
+// line are those that the mark says.
 fn short_line(
     alloc: Global,
     marks: &Marks,
@@ -57,8 +58,9 @@ fn short_line(
     format!(in alloc; "{place}:{column}: {severity} {number} {name}: {message}")
 }
 
-// The members of the JSON object of a diagnostic: those of its message, and `code`, `notes` and
-// `severity`.
+// The members of the JSON object of a diagnostic on the file of this name: those of its message,
+// and `code`, `notes`, objects with the members of messages too, and `severity`. `marks` are the
+// preprocessor's marks in the text.
 fn diagnostic_members(
     alloc: Global,
     marks: &Marks,
@@ -83,9 +85,9 @@ fn diagnostic_members(
 }
 
 // The members of a message at a span: the text `said`, the line and the column where the span
-// begins, and as `end` the place after its last byte; these places are null without a span. The
-// member `file` is what a preprocessor's mark before the span says, else `file`; without either it
-// is left out.
+// begins, and as `end` the place after its last byte; these places are null without a span. Lines
+// and the member `file` are what a preprocessor's mark before the span says, else those in the text
+// and `file`; without either name `file` is left out.
 fn message_members(
     alloc: Global,
     marks: &Marks,

@@ -22,7 +22,7 @@ pub struct GuestFile {
 }
 
 impl GuestFile {
-    /// The text of the guest program in the file, as [`read_file`] reads it.
+    /// The text of the guest program in the file, or on standard input where its name is `-`.
     ///
     /// # Errors
     ///
@@ -38,7 +38,7 @@ impl GuestFile {
     }
 }
 
-/// The text of the guest program in a file.
+/// The text of the guest program in a file, or on standard input where `file` is `-`.
 ///
 /// # Errors
 ///
@@ -54,9 +54,9 @@ where
 }
 
 /// The files that a name stands for: the file of that name, or all guest programs in the folder of
-/// that name and in the folders in it, sorted by name. Links to folders in it aren't followed. A
-/// folder that can't be read, or has no guest program, is answered as one file, by the folder's
-/// name and with the error.
+/// that name and in the folders in it, sorted by name. Links to folders in it aren't followed.
+/// Where the folder has no guest program, or one of the folders can't be read, the folder is
+/// answered as one file, by its name and with the error.
 ///
 /// # Errors
 ///
@@ -79,8 +79,8 @@ where
 }
 
 // The sorted names of the files that a name stands for: the name itself, or, of a folder, those of
-// all guest programs in it and in the folders in it. An error where the folder has none or can't be
-// read.
+// all guest programs in it and in the folders in it. An error where there are none, one of the
+// folders can't be read, or memory runs out. The loop ends when no folder is left.
 fn guest_names<H>(rt: &H, name: &str) -> io::Result<Vec<String>>
 where
     H: Files + Alloc<A = Global> + Clone + Drop,
@@ -97,7 +97,7 @@ where
         let Some(folder) = folders.pop() else {
             break;
         };
-        push_entries(rt, folder.as_str(), &mut guests, &mut folders)?;
+        push_guests_and_folders(rt, folder.as_str(), &mut guests, &mut folders)?;
     }
     if guests.is_empty() {
         return Err(io::Error::new(ErrorKind::NotFound, NO_GUESTS));
@@ -107,8 +107,8 @@ where
 }
 
 // Pushes the names of the guest programs in a folder to `guests`, and those of the folders in it to
-// `folders`.
-fn push_entries<H>(
+// `folders`; other names are skipped. An error where the folder can't be read or memory runs out.
+fn push_guests_and_folders<H>(
     rt: &H,
     folder: &str,
     guests: &mut Vec<String>,

@@ -4,7 +4,7 @@ use explain::Source;
 use explain_json::{explanation_json, no_schedule_json};
 use explain_page::{explanation_html, no_schedule_html};
 use explain_text::{Layout, why_text};
-use explained::{Explained, Output, Render, is_fewest, no_schedule_text};
+use explained::{Explained, Output, Render, has_fewest_preemptions, no_schedule_text};
 use runner::report_value;
 use std::alloc::Global;
 
@@ -20,8 +20,8 @@ pub struct Html;
 const PAGE_WIDTH: usize = 100;
 
 impl Render for Json {
-    // The JSON of the explanation, with the report of the search, where a search found the
-    // schedule; or the JSON of a search that found no bad schedule.
+    // The JSON of the explanation, with the report of the search where a search found the schedule;
+    // or the JSON of the report of a search that found no bad schedule.
     fn render(&self, alloc: Global, answer: &Explained, source: &Source<'_>, file: &str) -> Output {
         match answer {
             Explained::Asked(explanation) => explanation_json(alloc, explanation, source, None),
@@ -37,14 +37,15 @@ impl Render for Json {
 }
 
 impl Render for Html {
-    // The page of the explanation, with the report of the search, where a search found the
-    // schedule; or a page with the sentence that a search found no bad schedule.
+    // The page of the explanation, with its text, where steps that matter less share rows (`steps`
+    // is 0), and with the report of the search where a search found the schedule; or a page with
+    // the sentence that a search found no bad schedule.
     fn render(&self, alloc: Global, answer: &Explained, source: &Source<'_>, file: &str) -> Output {
         let (explanation, is_fewest, ends) = match answer {
             Explained::Asked(explanation) => (explanation, false, None),
             Explained::Found(report, Some(explanation)) => {
                 let ends = report_value(alloc, report)?;
-                (explanation, is_fewest(report), Some(ends))
+                (explanation, has_fewest_preemptions(report), Some(ends))
             }
             Explained::Found(report, None) => {
                 let sentence = no_schedule_text(alloc, file, report)?;

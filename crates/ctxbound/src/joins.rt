@@ -17,13 +17,13 @@ use std::io::Input;
 use std::sync::Arc;
 use verify::program_of;
 
-/// What is printed of the report that the parts in the files of a request join to, for the guest
-/// program of this text. Where a part is missing or refused, nothing is printed.
+/// Reads the parts in the files of a request, joins them to the report on the guest program that
+/// `text` spells, and answers what is printed of the report.
 ///
 /// # Errors
 ///
 /// What is wrong first: with the text, with the program that it spells, with a file of parts, or
-/// with the parts.
+/// with the parts, as where one is missing. No report is printed then.
 pub fn join_files<'a, H>(
     rt: &H,
     text: &[u8],
@@ -39,14 +39,14 @@ where
     for file in &request.parts {
         push_parts(rt, &mut parts, guest, file.as_str())?;
     }
-    match joined_report(alloc, &program, request.search, parts.as_slice()) {
+    match printed_report(alloc, &program, request.search, parts.as_slice()) {
         Ok(printed) => Ok(printed),
         Err(error) => Err(CommandFault::Line(error_line(alloc, &error)?, error_status(&error))),
     }
 }
 
 // Reads the parts in a file and pushes them to `parts`. An error where the file can't be read, a
-// line is that of no part, or a part is of another guest than this one; then none is pushed.
+// line spells no part, a part is of another guest, or memory runs out; then none is pushed.
 fn push_parts<'a, H>(
     rt: &H,
     parts: &mut Vec<Part>,
@@ -87,8 +87,8 @@ fn error_line(alloc: Global, error: &JoinError) -> Result<Vec<u8>, AllocError>
     Ok(line)
 }
 
-// The status where parts don't join to a report: 3 where more parts would help, 4 for memory, else
-// 2.
+// The status where parts don't join to a report: 3 where more parts would help, 4 where memory runs
+// out, else 2.
 fn error_status(error: &JoinError) -> u8
     ensures { result ≡ error_status error.now }
 {
@@ -101,9 +101,9 @@ fn error_status(error: &JoinError) -> u8
     }
 }
 
-// What is printed of the report that parts of a search join to, and the status of its verdict; or
-// why they don't join to one.
-fn joined_report(
+// The report, as it is printed, that parts of a search of a program join to, and the status of its
+// verdict; or why they don't join to one.
+fn printed_report(
     alloc: Global,
     program: &Arc<Program>,
     search: Search,

@@ -11,9 +11,10 @@ use runner::ExploreError;
 use std::alloc::Global;
 use verify::program_of;
 
-/// A line for each prefix of the least length at which the schedules of the program that a text
-/// spells have `at_least` prefixes; where they never have so many, for each complete schedule. If
-/// `is_pruned`, for those alone that a search with sleep sets enters.
+/// A line for each prefix of the schedules of the program that a text spells, of the least length
+/// at which there are `at_least` prefixes or more; a shorter complete schedule counts as a prefix,
+/// too. Where no length has that many, a line for each complete schedule. If `is_pruned`, only the
+/// prefixes that a search with sleep sets enters.
 ///
 /// # Errors
 ///

@@ -12,8 +12,9 @@ use std::thread::Threads;
 use suite::{Entry, Outcome, Table, Tally, json_line};
 use text_lines::Marks;
 
-/// Searches each file of a suite, and prints what became of it as soon as that is known. Answers
-/// the greatest of the files' statuses, or a fault's status where nothing more can be written.
+/// Searches each file of a suite, and writes what became of it to `out` as soon as that is known.
+/// Answers the greatest of the files' statuses; where `out` can't be written or memory runs out,
+/// the status of that fault, whose line goes to `err`.
 pub fn serve_suite<H, W: Write, E: Write>(
     rt: &H,
     request: &SuiteRequest,
@@ -23,16 +24,16 @@ pub fn serve_suite<H, W: Write, E: Write>(
 where
     H: Threads + Wait + Sync + Eprint + Files + Input + Alloc<A = Global> + Clone + Drop,
 {
-    match print_suite(rt, request, out, err) {
+    match run_suite(rt, request, out, err) {
         Ok(tally) => tally.worst(),
         Err(error) => CommandFault::Device(STANDARD_OUTPUT, error).report(err),
     }
 }
 
-// Searches the files of a suite one after the other, prints what becomes of each, and last, in a
-// table, the tally of their statuses, which it answers. An error where `out` can't be written, or
-// memory runs out.
-fn print_suite<H, W: Write, E: Write>(
+// Searches the files of a suite one after the other, and writes what becomes of each to `out`, as
+// JSON or as a row of a table, which ends with the tally of their statuses. Answers the tally. An
+// error where `out` can't be written, or memory runs out.
+fn run_suite<H, W: Write, E: Write>(
     rt: &H,
     request: &SuiteRequest,
     out: &mut W,
@@ -72,7 +73,9 @@ where
 }
 
 // Reads and searches a file of a suite: its entry, and the preprocessor's marks in its text, which
-// say where its lines come from. An error only where memory runs out.
+// say where its lines come from. If progress is asked for, the file's name is written to `err`
+// before the search. A file that can't be read has an entry that says why, and no marks. An error
+// only where memory runs out.
 fn search_file<H, E: Write>(
     rt: &H,
     guest: &GuestFile,
@@ -91,7 +94,7 @@ where
             }
             let gate = ProgressGate::new(rt, request.progress);
             let marks = Marks::new(alloc, text.as_slice())?;
-            let entry = Entry::new(rt, file, text.as_slice(), request.limits, &gate);
+            let entry = Entry::of_text(rt, file, text.as_slice(), request.limits, &gate);
             return Ok((entry, marks));
         }
         Err(error) if error.kind() == ErrorKind::OutOfMemory => {

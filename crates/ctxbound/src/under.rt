@@ -76,7 +76,8 @@ where
     Ok(explore_under(rt, alloc, item, search.options, search.workers, &gate)?)
 }
 
-// The mode in which the prefixes for a search are listed: with sleep sets where it has no bound.
+// The mode in which the prefixes for a search are listed: with sleep sets where the search has no
+// bound, else with a bound.
 fn prefix_mode(search: Search) -> Mode
     ensures { result ≡ prefix_mode search }
 {

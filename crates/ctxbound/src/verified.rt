@@ -20,8 +20,8 @@ use verify::{BadSchedule, Correctness, Preemptions, verify_text};
 /// What is said at the end where the searches leave open whether a program is right.
 const HIGHER_LIMIT: &str = "A higher --limit says more.";
 
-/// Whether the guest program of this text is right, as the answer to print. A line on each search
-/// is written to `out` as the search ends.
+/// Verifies that no schedule of the guest program of this text is bad, and answers what is printed
+/// of it. A line on each search is written to `out` as the search ends.
 ///
 /// # Errors
 ///
@@ -49,8 +49,8 @@ where
     })
 }
 
-// The status of an answer: 0 where the program is right, 1 where a schedule is bad, 3 where the
-// searches left open whether one is.
+// The status of the answer whether a program is right: 0 where it is, 1 where a schedule is bad, 3
+// where the searches left open whether one is.
 fn verified_status(answer: &Correctness) -> u8
     ensures { result ≡ verified_status answer.now }
 {
@@ -63,7 +63,8 @@ fn verified_status(answer: &Correctness) -> u8
 
 // The text of the answer that a program is right, with its caveats: a line for each warning of
 // `CAVEATS` that a check of its schedules, up to the limit, finds, and for each that the check may
-// have missed since it was cut short there.
+// have missed since it was cut short there. A warning's place is its line and column, with the file
+// where a preprocessor's mark names one.
 fn right_text(alloc: Global, request: &VerifyRequest, text: &[u8]) -> Result<String, AllocError> {
     let file = request.file.as_str();
     let mut told = format!(in alloc; "RIGHT: no schedule of {file} fails or gets stuck.\n")?;
@@ -94,8 +95,8 @@ const CAVEATS: [(&str, &[u8], &str); 2] = [
 ];
 
 // Adds to `told`, the answer that a program is right, the caveats that a diagnostic at the place
-// `at` makes: its message, where it is a warning of `CAVEATS`; where it says that the check was cut
-// short, a line for each of those warnings that the text, which has these `pieces`, may have.
+// `at` makes: its message, where it is a warning of `CAVEATS`; where it is `W21`, which says that
+// the check was cut short, a line for each of `CAVEATS` whose word is among the text's `pieces`.
 fn put_caveats(
     told: &mut String,
     alloc: Global,
@@ -116,7 +117,8 @@ fn put_caveats(
 }
 
 // The text of the answer that the schedule `bad` of the program in this file is bad, with the
-// command that explains it. If `is_fewest`, none with fewer preemptions is.
+// command that explains it. Where it has preemptions, the text says whether it is known
+// (`is_fewest`) that none with fewer is bad. No bad schedule is `Done`.
 fn bad_text(
     alloc: Global,
     file: &str,
@@ -155,8 +157,8 @@ fn undecided_text(alloc: Global, file: &str, below: u32) -> Result<String, Alloc
     }
 }
 
-// A word quoted for a shell: in single quotes, unless it is of letters, digits and signs that a
-// shell takes as they are.
+// A word quoted for a shell: in single quotes, where a single quote in it is `'\''`, if it is empty
+// or has anything but letters, digits and signs that a shell takes as they are.
 fn shell_quoted(alloc: Global, word: &str) -> Result<String, AllocError> {
     let is_plain = |b: &u8| b.is_ascii_alphanumeric() || b"_./+-@%:,".contains(b);
     if !word.is_empty() && word.as_bytes().iter().all(is_plain) {

@@ -8,7 +8,7 @@ ghost use Rattle.explain.specs.inner.Runs.{set_at};
 use guest_code::limits::LOCALS;
 use guest_code::program::Instruction;
 use replay::Act;
-use semantics::{Turn, next_local};
+use semantics::{Turn, run_if_local};
 use std::alloc::{AllocError, Global};
 
 /// An assignment to a local, by an instruction that a thread carries out.
@@ -23,7 +23,7 @@ pub struct Assignment {
 }
 
 /// Where a thread was before a step, with the values of its locals, and where it was after the step
-/// and its local run.
+/// and the local run after it.
 #[derive(Clone, Copy, Debug)]
 pub struct Passage {
     /// The number of the instruction of the step.
@@ -35,8 +35,9 @@ pub struct Passage {
     pub locals: [i64; LOCALS],
 }
 
-/// The assignments of a thread with this code in a step that did `act`, and in the local run after
-/// it, in order. `passage` says where the thread was before and after.
+/// The assignments to a thread's locals in a step that did `act`, and in the local run after it, in
+/// order. `code` is the thread's; `passage` says where the thread was before the step and after the
+/// local run, and has the values of its locals before the step.
 ///
 /// # Errors
 ///
@@ -53,18 +54,18 @@ pub fn assignments_of(
         ≡ settings_by code.now passage.from passage.to passage.locals act) }
 {
     let first = assignment_of(passage.from, &code[passage.from], act);
-    let mut assignments = list_of(alloc, first)?;
+    let mut assignments = vec_from_option(alloc, first)?;
     let mut locals = passage.locals;
-    set_local(&mut locals, first);
+    apply_assignment(&mut locals, first);
     if passage.to == passage.from {
         return Ok(assignments);
     }
-    put_assignments(&mut assignments, code, &mut locals, passage.from + 1)?;
+    run_and_push_assignments(&mut assignments, code, &mut locals, passage.from + 1)?;
     Ok(assignments)
 }
 
-// The value that a visible statement, the instruction of this number, gave a local in a step that
-// did `act`; `None` where it sets no local.
+// The assignment to a local by a visible statement, whose step did `act`; `None` where it sets no
+// local. `instruction` is the number of the statement's instruction.
 fn assignment_of(instruction: usize, statement: &Instruction, act: Act) -> Option<Assignment>
     requires { (p : Program) × IsValid p statement.now }
     ensures value { result ≡ setting_by instruction statement.now act }
@@ -90,8 +91,11 @@ fn assignment_of(instruction: usize, statement: &Instruction, act: Act) -> Optio
     }
 }
 
-// The assignments of an option as a list: one, or none.
-fn list_of(alloc: Global, assignment: Option<Assignment>) -> Result<Vec<Assignment>, AllocError>
+// A list with the assignment, if there is one; empty for `None`.
+fn vec_from_option(
+    alloc: Global,
+    assignment: Option<Assignment>,
+) -> Result<Vec<Assignment>, AllocError>
     ensures { IfOk result (λ v. v.items ≡ listed assignment) }
 {
     let mut assignments = Vec::new(alloc);
@@ -101,8 +105,8 @@ fn list_of(alloc: Global, assignment: Option<Assignment>) -> Result<Vec<Assignme
     Ok(assignments)
 }
 
-// Carries an assignment out in the locals of a thread; `None` changes nothing.
-fn set_local(locals: &mut [i64; LOCALS], assignment: Option<Assignment>)
+// Gives a thread's local the value that the assignment says; for `None`, changes nothing.
+fn apply_assignment(locals: &mut [i64; LOCALS], assignment: Option<Assignment>)
     requires { IfSome assignment (λ assignment. assignment.local < LOCALS) }
     ensures { locals.new ≡ locals_with locals.old assignment }
 {
@@ -111,13 +115,13 @@ fn set_local(locals: &mut [i64; LOCALS], assignment: Option<Assignment>)
     }
 }
 
-/// Adds to `assignments` what a local run from instruction `from` on sets, in order, and sets it in
-/// `locals`, which are the thread's locals before the run.
+/// Carries out a local run from instruction `from` on in `locals`, which are the thread's locals
+/// before it, and adds the assignments of the run to `assignments`, in order.
 ///
 /// # Errors
 ///
 /// `AllocError` where memory runs out.
-pub fn put_assignments(
+pub fn run_and_push_assignments(
     assignments: &mut Vec<Assignment>,
     code: &[Instruction],
     locals: &mut [i64; LOCALS],
@@ -128,16 +132,16 @@ pub fn put_assignments(
         ≡ assignments.old.items ++ settings_in (drop from code.now) from 0 locals.old) }
 {
     let mut at = from;
-    while let Turn::Runs(next) = next_local(code, locals, at) {
-        put_assignment(assignments, at, &code[at], locals)?;
+    while let Turn::Runs(next) = run_if_local(code, locals, at) {
+        push_if_set(assignments, at, &code[at], locals)?;
         at = next;
     }
     Ok(())
 }
 
-// Adds the assignment of a `set` that a local run has carried out as instruction `at`; of any other
-// instruction nothing. `locals` are the thread's locals after the instruction.
-fn put_assignment(
+// If `instruction`, which has number `at`, is a `set`, adds its assignment; else adds nothing. A
+// local run has just carried it out: `locals` are the thread's locals after it.
+fn push_if_set(
     assignments: &mut Vec<Assignment>,
     at: usize,
     instruction: &Instruction,

@@ -8,7 +8,7 @@ ghost use Rattle.explain.specs.Blocked.{reason_of};
 ghost use Rattle.explain.specs.Explains.{Explains, TellsOpening, TellsThreads};
 ghost use Rattle.explain.specs.inner.Carrying.{IsCarriedOut, AreHoldersAfter, holder_after};
 
-use crate::assignments::{Assignment, put_assignments};
+use crate::assignments::{Assignment, run_and_push_assignments};
 use crate::step::Step;
 use crate::thread_state::{Reason, ThreadState};
 use guest_code::limits::LOCALS;
@@ -52,8 +52,8 @@ pub struct Explanation {
 }
 
 impl Explanation {
-    /// The explanation of a schedule, which is carried out to its end, or up to a step of a thread
-    /// that isn't enabled.
+    /// The explanation of a schedule, which is carried out from the start, to its end or up to a
+    /// step of a thread that isn't enabled.
     ///
     /// # Errors
     ///
@@ -79,8 +79,8 @@ impl Explanation {
         })
     }
 
-    /// The schedule that is explained, as it was given: also those of its steps that weren't taken,
-    /// from the first of a thread that isn't enabled on.
+    /// The whole schedule that is explained, also its steps that weren't taken: the first step of a
+    /// thread that isn't enabled, and all steps after it.
     pub fn schedule(&self) -> &[u8]
         ensures { result.now ≡ self.now.schedule.items }
     {
@@ -123,7 +123,8 @@ impl Explanation {
         self.preemptions
     }
 
-    /// How the schedule ends; `None` where a thread is still enabled after the last step taken.
+    /// How the steps that were taken end: done, failed or stuck; `None` where a thread is still
+    /// enabled after the last one.
     pub fn kind(&self) -> Option<Kind>
         ensures { result ≡ self.now.kind }
     {
@@ -146,7 +147,8 @@ impl Explanation {
         self.thread_states.get(thread as usize)
     }
 
-    /// What a thread waits for after the last step that was taken; `None` where it isn't blocked.
+    /// What a thread waits for after the last step that was taken; `None` where no thread of this
+    /// number is blocked.
     pub fn reason(&self, thread: u8) -> Option<Reason>
         ensures { result ≡ reason_of (slice_get self.now.thread_states.items thread) }
     {
@@ -154,7 +156,7 @@ impl Explanation {
     }
 
     /// The thread that owns a mutex after the last step that was taken, and since which step;
-    /// `None` where nobody owns it.
+    /// `None` where nobody owns it, or there is no such mutex.
     pub fn holder(&self, mutex: usize) -> Option<Holder>
         ensures { result ≡ slice_index_or self.now.holders.items mutex None }
     {
@@ -162,7 +164,8 @@ impl Explanation {
     }
 }
 
-// A schedule that was carried out as far as it runs, and what was kept of its steps.
+// A schedule carried out up to its end, or to a step of a thread that isn't enabled: where that
+// leads, its steps, who owns each mutex, and that thread.
 #[derive(Drop)]
 struct Run {
     execution: Execution,
@@ -172,8 +175,8 @@ struct Run {
 }
 
 impl Run {
-    // Carries a schedule out from the start, to its end, or up to a step of a thread that isn't
-    // enabled, the number of which is then `refused`.
+    // The run of a schedule, which is carried out from the start, to its end or up to a step of a
+    // thread that isn't enabled; `refused` is then the number of this thread, else `None`.
     fn new(alloc: Global, program: &Program, schedule: &[u8]) -> Result<Run, AllocError>
         ensures { IfOk result (IsCarriedOut program.now schedule.now) }
     {
@@ -212,8 +215,8 @@ fn can_step(state: &State, program: &Program, thread: u8) -> bool
     thread < program.threads() && state.is_enabled(program, thread)
 }
 
-// Updates the owners of all mutexes, and since which step they own them, for the step at place `at`
-// of the schedule, which led to `state`.
+// Brings the holders of all mutexes up to date after the step at place `at` of the schedule, which
+// led to `state`: `holders` has, by mutex number, who owned each before it, and since which step.
 fn update_holders(holders: &mut [Option<Holder>], state: &State, at: usize)
     requires { length holders.old ≡ length state.now.owners }
     ensures { AreHoldersAfter holders.old holders.new state.now at }
@@ -223,8 +226,9 @@ fn update_holders(holders: &mut [Option<Holder>], state: &State, at: usize)
     }
 }
 
-// The owner of a mutex after the step at place `at`, and since which step. Before the step that was
-// `holder`, after it thread `owner` owns the mutex: where that is the same thread, `holder` stays.
+// The holder of a mutex after the step at place `at`: `owner` is the thread that owns it then, and
+// `holder` who held it before the step. The same holder if the thread is the same, else the thread
+// since this step. `None` where `owner` is `None`: nobody owns the mutex.
 fn holder_after(holder: Option<Holder>, owner: Option<u8>, at: usize) -> Option<Holder>
     ensures { result ≡ holder_after holder owner at }
 {
@@ -251,7 +255,8 @@ fn thread_states_in(
     Ok(thread_states)
 }
 
-// The start of each thread, by number: its local run before the first step of a schedule.
+// The start of each thread of a program, by number: what it did in its local run before the first
+// step, and where that led.
 fn starts_of(alloc: Global, program: &Program) -> Result<Vec<Start>, AllocError>
     ensures { IfOk result (λ v. TellsOpening program.now v.items) }
 {
@@ -259,7 +264,7 @@ fn starts_of(alloc: Global, program: &Program) -> Result<Vec<Start>, AllocError>
     let mut starts = Vec::new(alloc);
     for t in 0..program.threads() {
         let mut assignments = Vec::new(alloc);
-        put_assignments(&mut assignments, program.code(t), &mut [0; LOCALS], 0)?;
+        run_and_push_assignments(&mut assignments, program.code(t), &mut [0; LOCALS], 0)?;
         starts.push(Start {
             assignments,
             next: state.pc(t),

@@ -34,7 +34,8 @@ pub enum ObjectState {
 }
 
 impl Object {
-    /// The object that an action is on; of a `wait`, which is on two, the condition.
+    /// The object that an action is on: of a `wait`, which is on a condition and a mutex, the
+    /// condition.
     pub fn of(action: Action) -> Object
         ensures { result ≡ object_of action }
     {

@@ -26,7 +26,7 @@ pub struct Source<'a> {
 }
 
 impl<'a> Source<'a> {
-    /// The name of a thread; `?` where there is no such thread.
+    /// The name of a thread; `?` where the program has no thread of this number.
     pub fn thread_name(&self, thread: u8) -> &'a [u8] {
         if thread < self.program.threads() {
             self.program.thread_name(thread)
@@ -35,7 +35,7 @@ impl<'a> Source<'a> {
         }
     }
 
-    /// The name of an object; `?` where there is no such object.
+    /// The name of an object; `?` where the program has no object of this kind and number.
     pub fn object_name(&self, object: Object) -> &'a [u8] {
         match object {
             Object::Variable(x) if x < self.program.variables() as usize => {
@@ -52,16 +52,16 @@ impl<'a> Source<'a> {
         }
     }
 
-    /// The name of a local of a thread; `?` where there is no such local.
+    /// The name of a local of a thread; `?` where there is no such thread, or it has no such local.
     pub fn local_name(&self, thread: u8, local: usize) -> &'a [u8] {
         if thread < self.program.threads() && local < self.program.locals(thread) {
-            self.map.local(thread, local)
+            self.map.local_name(thread, local)
         } else {
             b"?"
         }
     }
 
-    /// The instruction of a number in a thread's code; `None` where there is no such thread or
+    /// The instruction of this number in a thread's code; `None` where there is no such thread or
     /// instruction.
     pub fn instruction(&self, thread: u8, instruction: usize) -> Option<Instruction> {
         if thread < self.program.threads() {
@@ -71,8 +71,8 @@ impl<'a> Source<'a> {
         }
     }
 
-    /// The place in the text of the instruction of a number in a thread's code; `None` where there
-    /// is no such thread or instruction.
+    /// The place, in the text, of the instruction of this number in a thread's code; `None` where
+    /// there is no such thread or instruction.
     pub fn place(&self, thread: u8, instruction: usize) -> Option<Pos> {
         if thread < self.program.threads() && instruction < self.program.code(thread).len() {
             Some(self.map.place(thread, instruction))
@@ -81,8 +81,8 @@ impl<'a> Source<'a> {
         }
     }
 
-    /// The line in the text, from 1, of the instruction of a number in a thread's code; 0 where there
-    /// is no such thread or instruction.
+    /// The line in the text, counted from 1, of the instruction of this number in a thread's code;
+    /// 0 where there is no such thread or instruction.
     pub fn line(&self, thread: u8, instruction: usize) -> u32 {
         match self.place(thread, instruction) {
             Some(place) => place.line,

@@ -7,7 +7,7 @@ use guest_syntax::tree::Op;
 use std::fmt;
 use std::str::from_utf8;
 
-/// Bytes as text, such as a name in a guest, which is ASCII; `?` where they aren't UTF-8.
+/// A name, or other bytes, as text; `?` where they aren't UTF-8.
 pub fn name_text(name: &[u8]) -> &str {
     from_utf8(name).unwrap_or("?")
 }
@@ -36,6 +36,7 @@ struct Operand<'a> {
 }
 
 impl fmt::Display for Operand<'_> {
+    // Writes the name of a local, `?` where the thread has no such local, or a number.
     fn fmt<W: fmt::Write>(&self, f: &mut fmt::Formatter<W>) -> fmt::Result {
         match self.value {
             Value::Local(r) => f.write_str(name_text(self.source.local_name(self.thread, r))),
@@ -63,6 +64,7 @@ struct ExpressionText<'a> {
 }
 
 impl fmt::Display for ExpressionText<'_> {
+    // Writes one operand, or two with the operator between them.
     fn fmt<W: fmt::Write>(&self, f: &mut fmt::Formatter<W>) -> fmt::Result {
         let statement = &self.statement;
         match self.expression {
@@ -76,12 +78,12 @@ impl fmt::Display for ExpressionText<'_> {
 }
 
 impl<'a> Statement<'a> {
-    // The name of a local of the statement's thread; `?` where the thread has no such local.
+    // The name of a local of the statement's thread, as text; `?` where it has no such local.
     fn local_name(&self, local: usize) -> &str {
         name_text(self.source.local_name(self.thread, local))
     }
 
-    // The name of an object of the program; `?` where there is no such object.
+    // The name of an object of the program, as text; `?` where there is no such object.
     fn object_name(&self, object: Object) -> &str {
         name_text(self.source.object_name(object))
     }
@@ -95,7 +97,7 @@ impl<'a> Statement<'a> {
         }
     }
 
-    // An expression of the statement, to be written as a text spells it.
+    // An expression of the statement, to be written as a guest's text spells it.
     fn expression(&self, expression: Expression) -> ExpressionText<'a> {
         ExpressionText {
             statement: *self,
@@ -103,8 +105,8 @@ impl<'a> Statement<'a> {
         }
     }
 
-    // Writes a statement with values, not one on a mutex, a condition or a semaphore: one on a
-    // variable, or a `set`, an `assert`, an `if` without its block, or else a `leave`.
+    // Writes a statement that names no mutex, condition or semaphore: one on a variable, a `set`,
+    // an `assert`, or an `if` without its blocks; for any other one, which is a jump, `leave`.
     fn write_value_statement<W: fmt::Write>(
         &self,
         f: &mut fmt::Formatter<W>,
@@ -166,6 +168,7 @@ impl<'a> Statement<'a> {
 }
 
 impl fmt::Display for Statement<'_> {
+    // Writes the statement; nothing where there is no such instruction, as at the end of the code.
     fn fmt<W: fmt::Write>(&self, f: &mut fmt::Formatter<W>) -> fmt::Result {
         let Some(instruction) = self.source.instruction(self.thread, self.instruction) else {
             return Ok(());

@@ -40,8 +40,8 @@ pub struct Step {
 }
 
 impl Step {
-    /// Takes a step of a thread that is enabled, in `execution`, and answers what the step did and
-    /// changed.
+    /// Takes a step of a thread that is enabled, in `execution`, and answers what the step did, and
+    /// what it and the local run after it changed.
     ///
     /// # Errors
     ///
@@ -59,7 +59,7 @@ impl Step {
         ensures { IfOk result (IsTakenStep program.now execution.old execution.new thread) }
     {
         let state = execution.state();
-        let action = state.next(program, thread).unwrap();
+        let action = state.next_action(program, thread).unwrap();
         let act = act_of(state, program, thread, action);
         let instruction = state.pc(thread);
         let object = Object::of(action);
@@ -129,8 +129,8 @@ fn woken_by(alloc: Global, state: &State, action: Action) -> Result<Vec<u8>, All
     }
 }
 
-// The threads that wait longest for a condition, the longest first: `most` of them, or all where
-// fewer wait.
+// The threads that have waited longest for a condition, the longest first: `most` of them, or all
+// where fewer wait.
 fn first_queued(
     alloc: Global,
     state: &State,

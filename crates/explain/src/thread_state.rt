@@ -24,8 +24,7 @@ pub enum Reason {
 }
 
 impl Reason {
-    /// The mutex that a thread waits for by this reason; `None` where it waits for a semaphore or a
-    /// condition.
+    /// The number of the mutex that a blocked thread waits for; `None` where it waits for no mutex.
     pub fn mutex(self) -> Option<usize>
         ensures { result ≡ mutex_of self }
     {
@@ -37,7 +36,7 @@ impl Reason {
 }
 
 impl Reason {
-    /// The object that a thread waits for by this reason.
+    /// The object that a blocked thread waits for.
     pub fn object(self) -> Object
         ensures { result ≡ waited_for self }
     {
@@ -80,7 +79,7 @@ impl ThreadState {
         }
     }
 
-    /// Whether the thread is enabled in the state.
+    /// Whether the thread is enabled.
     pub fn is_enabled(&self) -> bool
         ensures { result ≡ self.now.enabled }
     {
@@ -95,7 +94,7 @@ impl ThreadState {
     }
 }
 
-/// What a blocked thread waits for in a state; `None` for a thread that is enabled, has ended or
+/// What a thread waits for in a state where it is blocked; `None` where it is enabled, has ended or
 /// has stopped.
 pub fn reason_of(state: &State, program: &Program, thread: u8) -> Option<Reason>
     requires of { IsOf program.now state.now }
@@ -106,7 +105,7 @@ pub fn reason_of(state: &State, program: &Program, thread: u8) -> Option<Reason>
     if let Status::Waiting(c) = state.status(thread) {
         return Some(Reason::Signal(c as usize));
     }
-    match state.next(program, thread)? {
+    match state.next_action(program, thread)? {
         Action::OnMutex(m, MutexAction::Lock) if state.owner(m).is_some() => Some(Reason::Lock(m)),
         Action::OnMutex(m, MutexAction::Retake) if state.owner(m).is_some() => {
             Some(Reason::Retake(m))

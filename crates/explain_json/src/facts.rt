@@ -35,7 +35,8 @@ pub struct Facts<'a> {
 }
 
 impl<'a> Facts<'a> {
-    /// What the JSON of an explanation is written from; `search` and `why` are as in the fields.
+    /// Collects what the JSON of an explanation is written from. `search` is the report of a search
+    /// that found the schedule, if one did; `why` says how it ends and why, for a page alone.
     pub fn new(
         alloc: Global,
         explanation: &'a Explanation,
@@ -56,7 +57,7 @@ impl<'a> Facts<'a> {
         })
     }
 
-    /// The name of the thread of this number.
+    /// The name of the thread of this number; `?` where there is none.
     pub fn thread_name(&self, thread: u8) -> &str {
         name_text(self.source.thread_name(thread))
     }
@@ -69,13 +70,13 @@ impl<'a> Facts<'a> {
 
     /// The names of the threads in a set, by rising number.
     pub fn thread_names_in(&self, threads: Mask) -> Result<Vec<&str>, AllocError> {
-        let members = (0..THREADS as u8).filter(|thread| threads.contains(*thread));
+        let members = (0..THREADS as u8).filter(|thread| threads.has(*thread));
         members.map(|t| self.thread_name(t)).collect(self.alloc)
     }
 
-    /// The names of the threads in each circle. A circle is a set of threads each of which waits,
-    /// through others if need be, for each of them.
-    pub fn circle_names(&self) -> Result<Vec<Vec<&str>>, AllocError> {
+    /// The names of the threads in each circle, a list for each. A circle is a set of threads each
+    /// of which waits, through others if need be, for each of them.
+    pub fn circle_thread_names(&self) -> Result<Vec<Vec<&str>>, AllocError> {
         let circles = self
             .waits
             .circles()
@@ -84,7 +85,7 @@ impl<'a> Facts<'a> {
         circles.try_collect(self.alloc)
     }
 
-    /// The name of an object.
+    /// The name of an object of the guest; `?` where there is no such object.
     pub fn object_name(&self, object: Object) -> &str {
         name_text(self.source.object_name(object))
     }
@@ -99,8 +100,8 @@ impl<'a> Facts<'a> {
         self.object_names(self.source.program.conditions(), Object::Condition)
     }
 
-    /// The names of the objects numbered from 0 up to `count`, where `kind` makes an object of a
-    /// number, as `Object::Mutex` does.
+    /// The names of the objects of a kind with the numbers below `count`, in their order. `kind`
+    /// makes an object of a number, as `Object::Mutex` does.
     pub fn object_names<F: Fn(usize) -> Object>(
         &self,
         count: u8,
@@ -120,12 +121,12 @@ impl<'a> Facts<'a> {
         }
     }
 
-    /// The name of the local of this number of a thread.
+    /// The name of a thread's local of this number; `?` where there is no such local.
     pub fn local_name(&self, thread: u8, local: usize) -> &str {
         name_text(self.source.local_name(thread, local))
     }
 
-    /// The statement of an instruction of a thread, as the guest's text spells it.
+    /// The statement whose instruction is at this place in a thread's code.
     pub fn statement(&self, thread: u8, instruction: usize) -> Statement<'_> {
         Statement {
             source: self.source,
@@ -135,7 +136,7 @@ impl<'a> Facts<'a> {
     }
 
     /// The whole schedule as it is printed: also the steps that didn't run.
-    pub fn schedule(&self) -> Result<String, AllocError> {
+    pub fn printed_schedule(&self) -> Result<String, AllocError> {
         let schedule = schedule_text(self.alloc, self.explanation.schedule())?;
         String::from_utf8_lossy(self.alloc, schedule.as_slice())
     }

@@ -1,7 +1,7 @@
 //! The threads that stopped, and where the values of a failed assertion came from.
 
 use crate::facts::Facts;
-use crate::words::stop_word;
+use crate::words::stop_reason_word;
 use crate::writer::{Writer, Written};
 use causes::Event;
 use explain::Object;
@@ -12,9 +12,9 @@ use std::alloc::AllocError;
 use std::collections::BTreeSet;
 
 impl Facts<'_> {
-    // Where the value of a thread's local before the event at place `end` came from, as places of
-    // events: those that set the local, or another local from which the value was computed, and
-    // those that wrote the variables which these events read.
+    // The places of the events from which a thread's local has its value before the event at place
+    // `end`: those that set the local, or another local from which the value was computed, and, for
+    // each variable that one of these read, the last event before the read that wrote it.
     fn origins(&self, end: usize, thread: u8, local: usize) -> Result<BTreeSet<usize>, AllocError> {
         let mut wanted = BTreeSet::new(self.alloc);
         let mut origins = BTreeSet::new(self.alloc);
@@ -24,9 +24,9 @@ impl Facts<'_> {
             if set.is_some_and(|local| wanted.remove(&local)) {
                 origins.insert(at)?;
                 let read = event.variable_read();
-                origins.extend(read.and_then(|x| self.causes.writer(at, x)))?;
+                origins.extend(read.and_then(|x| self.causes.last_write(at, x)))?;
                 if let Instruction::Set { value, .. } = event.statement {
-                    wanted.extend(locals_of(value).into_iter().flatten())?;
+                    wanted.extend(expression_locals(value).into_iter().flatten())?;
                 }
             }
         }
@@ -35,7 +35,8 @@ impl Facts<'_> {
 }
 
 impl<S: Serializer> Writer<'_, S> {
-    /// Writes an object for each thread that stopped, in the order in which they stopped.
+    /// Writes the list `failures`: an object for each thread that stopped, in the order in which
+    /// they stopped.
     pub fn put_failures(&mut self) -> Written<S> {
         self.begin_list("failures")?;
         for (at, event) in self.facts.causes.events().iter().enumerate() {
@@ -47,8 +48,8 @@ impl<S: Serializer> Writer<'_, S> {
     }
 
     // Writes an object for the thread that stopped in an event, the one at place `at` of the run:
-    // where and why it stopped; of an `unlock` or a `wait` also the mutex and who owned it, of an
-    // assertion the values of its locals.
+    // where, why and after how many preemptions it stopped; of an `unlock` or a `wait` also the
+    // mutex and who owned it, of an assertion the values of its locals.
     fn put_failure(&mut self, at: usize, event: &Event, stop: Stop) -> Written<S> {
         let facts = self.facts;
         let statement = facts.statement(event.thread, event.instruction);
@@ -56,7 +57,7 @@ impl<S: Serializer> Writer<'_, S> {
             Instruction::Unlock(mutex) | Instruction::Wait { mutex, .. } => Some(mutex),
             _ => None,
         };
-        let taken = mutex.and_then(|m| facts.causes.taker(at, m));
+        let taken = mutex.and_then(|m| facts.causes.owned_since(at, m));
         let owner = taken.and_then(|place| facts.causes.events().get(place));
         let ran = event.step.map_or(0, |step| step.saturating_add(1));
         let steps = facts.explanation.steps().iter().take(ran);
@@ -68,26 +69,26 @@ impl<S: Serializer> Writer<'_, S> {
         self.put("owner", owner.map(|owner| facts.thread_name(owner.thread)))?;
         self.put("preemptions", preempting.count())?;
         self.put("step", event.step)?;
-        self.put("stop", stop_word(stop))?;
-        self.put_text(statement)?;
+        self.put("stop", stop_reason_word(stop))?;
+        self.put_statement_text(statement)?;
         self.put("thread", event.thread)?;
-        self.put_values(at, event)?;
+        self.put_assertion_values(at, event)?;
         self.out.end_map()
     }
 
     // Writes the list `values`: the locals of an assertion, the event at place `at` of the run,
-    // each once, with its value and where that came from. It is empty where the event is no
-    // assertion.
-    fn put_values(&mut self, at: usize, event: &Event) -> Written<S> {
+    // each once, with its value and where that came from. The thread stopped there, so the value is
+    // that from the end of what ran. The list is empty where the event is no assertion.
+    fn put_assertion_values(&mut self, at: usize, event: &Event) -> Written<S> {
         let facts = self.facts;
         let locals = match event.statement {
-            Instruction::Assert(test) => locals_of(test),
+            Instruction::Assert(test) => expression_locals(test),
             _ => [None, None],
         };
         self.begin_list("values")?;
         for local in locals.into_iter().flatten() {
-            let standing = facts.explanation.thread_state(event.thread);
-            let value = standing.and_then(|standing| standing.locals.get(local));
+            let state = facts.explanation.thread_state(event.thread);
+            let value = state.and_then(|state| state.locals.get(local));
             self.out.begin_map(None)?;
             self.put("local", facts.local_name(event.thread, local))?;
             self.put_origins(at, event.thread, local)?;
@@ -97,11 +98,11 @@ impl<S: Serializer> Writer<'_, S> {
         self.out.end_seq()
     }
 
-    // Writes the list `origins`: the statements from which a thread's local has the value before
+    // Writes the list `origins`: the statements from which a thread's local has its value before
     // the event at place `at` of the run, in the order in which they were carried out.
     fn put_origins(&mut self, at: usize, thread: u8, local: usize) -> Written<S> {
         let facts = self.facts;
-        let origins = self.allocated(facts.origins(at, thread, local))?;
+        let origins = self.convert_alloc_error(facts.origins(at, thread, local))?;
         self.begin_list("origins")?;
         let events = facts.causes.events();
         for event in origins.iter().filter_map(|at| events.get(*at)) {
@@ -110,7 +111,7 @@ impl<S: Serializer> Writer<'_, S> {
             self.put_place(statement)?;
             self.put("name", facts.thread_name(event.thread))?;
             self.put("step", event.step)?;
-            self.put_text(statement)?;
+            self.put_statement_text(statement)?;
             self.out.end_map()?;
         }
         self.out.end_seq()
@@ -118,15 +119,15 @@ impl<S: Serializer> Writer<'_, S> {
 }
 
 // The numbers of the locals in an expression, each once, in its order.
-fn locals_of(expression: Expression) -> [Option<usize>; 2] {
+fn expression_locals(expression: Expression) -> [Option<usize>; 2] {
     match expression {
-        Expression::Both(a, _, b) if a != b => [local_of(a), local_of(b)],
-        Expression::Single(a) | Expression::Both(a, _, _) => [local_of(a), None],
+        Expression::Both(a, _, b) if a != b => [operand_local(a), operand_local(b)],
+        Expression::Single(a) | Expression::Both(a, _, _) => [operand_local(a), None],
     }
 }
 
 // The number of the local that an operand is; `None` where it is a literal.
-fn local_of(operand: Value) -> Option<usize> {
+fn operand_local(operand: Value) -> Option<usize> {
     match operand {
         Value::Local(local) => Some(local),
         Value::Literal(_) => None,

@@ -23,8 +23,8 @@ pub fn explanation_json<'a>(
     Ok(data)
 }
 
-/// What is told as JSON where a search found no bad schedule: the file, `null` as the schedule, and
-/// the report of the search.
+/// What is told as JSON where a search found no bad schedule: an object with the file, `null` as
+/// the schedule, and the report of the search; and a line feed.
 ///
 /// # Errors
 ///
@@ -37,7 +37,8 @@ pub fn no_schedule_json(alloc: Global, file: &str, search: Value) -> Result<Vec<
 }
 
 /// The JSON of an explanation with what only a page has: the text of the guest, where its lines
-/// come from, and `why`, which says in words how the schedule ends and why.
+/// come from, and `why`, which says in words how the schedule ends and why. `search` is the report
+/// of the search that found the schedule, if one did.
 ///
 /// # Errors
 ///
@@ -52,8 +53,8 @@ pub fn page_json<'a>(
     facts_json(&Facts::new(alloc, explanation, source, search, Some(why))?)
 }
 
-// These facts as JSON. The serializer fails only where memory runs out: that is what its error
-// becomes.
+// These facts as JSON. The serializer fails only where memory runs out, so its error becomes
+// `AllocError`.
 fn facts_json(facts: &Facts<'_>) -> Result<Vec<u8>, AllocError> {
     serde_json::to_vec(facts.alloc, facts).map_err(|_| AllocError)
 }

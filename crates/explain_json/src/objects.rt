@@ -32,7 +32,7 @@ impl<'a> ObjectStates<'a> {
     pub fn initial(facts: &'a Facts<'_>) -> Result<ObjectStates<'a>, AllocError> {
         Ok(ObjectStates {
             conditions: empty_queues(facts)?,
-            mutexes: free_mutexes(facts)?,
+            mutexes: initial_owners(facts)?,
             semaphores: initial_counts(facts)?,
             variables: initial_values(facts)?,
         })
@@ -47,8 +47,8 @@ impl<'a> ObjectStates<'a> {
         Ok(objects)
     }
 
-    /// Brings the states from before the step at place `at` to after it. No object changes where
-    /// the step's own object doesn't.
+    /// Brings the states from before a step to after it. The step is at place `at` of the schedule.
+    /// No object changes where the step's own object doesn't.
     pub fn apply_step(
         &mut self,
         facts: &'a Facts<'_>,
@@ -69,14 +69,15 @@ impl<'a> ObjectStates<'a> {
                 });
                 drop(self.mutexes.insert(name, owner)?);
             }
-            ObjectState::Waiting(_) => self.update_queue(facts, step)?,
+            ObjectState::Waiting(_) => self.apply_queue_step(facts, step)?,
         }
         Ok(())
     }
 
-    // Brings up to date who waits for the condition of a step: a `wait` adds its thread, and leaves
-    // its mutex without an owner; a `signal` or `broadcast` removes the threads that it woke.
-    fn update_queue(&mut self, facts: &'a Facts<'_>, step: &Step) -> Result<(), AllocError> {
+    // Applies a step on a condition: a `wait` adds its thread to those that wait, and leaves its
+    // mutex without an owner; a `signal` or `broadcast` removes the threads that it woke. Where no
+    // condition has the name of the step's object, nothing is changed.
+    fn apply_queue_step(&mut self, facts: &'a Facts<'_>, step: &Step) -> Result<(), AllocError> {
         let Some(queue) = self.conditions.get_mut(facts.object_name(step.object)) else {
             return Ok(());
         };
@@ -101,7 +102,7 @@ fn empty_queues<'a>(facts: &'a Facts<'_>) -> Result<ByName<'a, Vec<&'a str>>, Al
 }
 
 // By the name of each mutex, who owns it before the first step: nobody.
-fn free_mutexes<'a>(
+fn initial_owners<'a>(
     facts: &'a Facts<'_>,
 ) -> Result<ByName<'a, Option<MutexOwner<'a>>>, AllocError> {
     let mut owners = ByName::new(facts.alloc);
@@ -116,7 +117,10 @@ fn initial_counts<'a>(facts: &'a Facts<'_>) -> Result<ByName<'a, u16>, AllocErro
     let program = facts.source.program;
     let mut counts = ByName::new(facts.alloc);
     for k in 0..program.semaphores() as usize {
-        counts.insert(facts.object_name(Object::Semaphore(k)), program.count(k))?;
+        counts.insert(
+            facts.object_name(Object::Semaphore(k)),
+            program.initial_count(k),
+        )?;
     }
     Ok(counts)
 }
@@ -126,7 +130,10 @@ fn initial_values<'a>(facts: &'a Facts<'_>) -> Result<ByName<'a, i64>, AllocErro
     let program = facts.source.program;
     let mut values = ByName::new(facts.alloc);
     for x in 0..program.variables() as usize {
-        values.insert(facts.object_name(Object::Variable(x)), program.opening(x))?;
+        values.insert(
+            facts.object_name(Object::Variable(x)),
+            program.initial_value(x),
+        )?;
     }
     Ok(values)
 }

@@ -1,4 +1,4 @@
-//! Where statements are in the text, and which files the lines of the text come from.
+//! What statements say, where they are in the text, and which files its lines come from.
 
 use crate::facts::Facts;
 use crate::writer::{Writer, Written};
@@ -20,7 +20,8 @@ pub struct TextPlace {
 pub type StatementEnds = BTreeMap<(u32, u32), TextPlace>;
 
 /// Where the statements of a text end: after the `;`, or, of a statement that has a block, after
-/// what comes before the `{`.
+/// what comes before the `{`. Each `}` has an entry of its own, which is never looked up. A column
+/// too great for a `u32` is told as the greatest one.
 pub fn statement_ends(alloc: Global, text: &[u8]) -> Result<StatementEnds, AllocError> {
     let mut ends = StatementEnds::new(alloc);
     let mut begin = None;
@@ -58,13 +59,13 @@ pub struct FileRun<'a> {
 }
 
 impl Facts<'_> {
-    // Where a statement begins in the text; `None` where it is the end of a thread's code.
+    // Where a statement begins in the text; `None` for the end of a thread's code.
     fn statement_start(&self, statement: Statement<'_>) -> Option<Pos> {
         self.source.place(statement.thread, statement.instruction)
     }
 
     // Which line of a file a line of the text comes from, by a preprocessor's marks; `None` where
-    // no mark comes before the line.
+    // no mark before the line tells it.
     fn line_origin(&self, line: u32) -> Option<FilePlace<'_>> {
         let origin = self.marks.origin(line)?;
         Some(FilePlace {
@@ -73,9 +74,9 @@ impl Facts<'_> {
         })
     }
 
-    /// Which lines of the text come from which lines of which files, by a preprocessor's marks: an
-    /// item for each longest stretch of lines that come from consecutive lines of one file. `None`
-    /// where no line follows a mark.
+    /// Which lines of the text come from which lines of which files, by a preprocessor's marks: a
+    /// run for each longest series of lines that come from consecutive lines of one file. `None`
+    /// where the marks tell it of no line.
     pub fn file_runs(&self) -> Result<Option<Vec<FileRun<'_>>>, AllocError> {
         let mut runs = Vec::new(self.alloc);
         let mut due = None;
@@ -102,15 +103,15 @@ impl<S: Serializer> Writer<'_, S> {
         self.put_line_number(statement)
     }
 
-    /// Writes the `line` in which a statement begins, apart from the statement's other keys: in a
-    /// step, the key `held` comes between them.
+    /// Writes the `line` in which a statement begins, null at the end of a thread's code. The other
+    /// keys of its place are [`Writer::put_extent`]'s: in a step, `held` comes between these and it.
     pub fn put_line_number(&mut self, statement: Statement<'_>) -> Written<S> {
         let begin = self.facts.statement_start(statement);
         self.put("line", begin.map(|begin| begin.line))
     }
 
-    /// Writes the `column` at which a statement begins, its `end`, and, where a preprocessor's mark
-    /// comes before it, the line of a file that it comes `from`.
+    /// Writes the `column` at which a statement begins and its `end`, null at the end of a thread's
+    /// code, and, where a preprocessor's mark comes before it, the line of a file it comes `from`.
     pub fn put_extent(&mut self, statement: Statement<'_>) -> Written<S> {
         let facts = self.facts;
         let begin = facts.statement_start(statement);
@@ -121,8 +122,8 @@ impl<S: Serializer> Writer<'_, S> {
         self.put_some("from", from)
     }
 
-    /// Writes the `text` of a statement.
-    pub fn put_text(&mut self, statement: Statement<'_>) -> Written<S> {
+    /// Writes the `text` of a statement: how it is spelled.
+    pub fn put_statement_text(&mut self, statement: Statement<'_>) -> Written<S> {
         self.out.key("text")?;
         self.out.collect_str(&statement)
     }

@@ -1,7 +1,7 @@
 //! The steps of an explanation as JSON.
 
 use crate::objects::ObjectStates;
-use crate::words::{act_word, stop_word};
+use crate::words::{act_word, stop_reason_word};
 use crate::writer::{Writer, Written};
 use explain::{Assignment, Object, ObjectState, Step};
 use guest_code::program::Instruction;
@@ -11,16 +11,16 @@ impl<S: Serializer> Writer<'_, S> {
     /// Writes the list `steps`: an object for each step that ran, in order.
     pub fn put_steps(&mut self) -> Written<S> {
         let facts = self.facts;
-        let mut objects = self.allocated(ObjectStates::initial(facts))?;
+        let mut objects = self.convert_alloc_error(ObjectStates::initial(facts))?;
         self.begin_list("steps")?;
         for (at, step) in facts.explanation.steps().iter().enumerate() {
-            self.allocated(objects.apply_step(facts, at, step))?;
+            self.convert_alloc_error(objects.apply_step(facts, at, step))?;
             self.put_step(at, step, &objects)?;
         }
         self.out.end_seq()
     }
 
-    // Writes the step at a place of the schedule; `objects` are the states of the objects after it.
+    // Writes the step at place `at` as a JSON object; `objects` are the guest's objects after it.
     fn put_step(&mut self, at: usize, step: &Step, objects: &ObjectStates<'_>) -> Written<S> {
         let facts = self.facts;
         let thread = step.line.thread;
@@ -29,8 +29,11 @@ impl<S: Serializer> Writer<'_, S> {
         let held = held.map(|mutex| facts.object_name(mutex));
         self.out.begin_map(None)?;
         self.put("act", act_word(step.line.act))?;
-        self.put_after(step, objects)?;
-        self.put("cause", facts.causes.steps().get(at).copied() == Some(true))?;
+        self.put_states_after(step, objects)?;
+        self.put(
+            "cause",
+            facts.causes.step_marks().get(at).copied() == Some(true),
+        )?;
         self.put_extent(statement)?;
         self.put_allocated("held", held.collect::<Vec<&str>>(facts.alloc))?;
         self.put_line_number(statement)?;
@@ -43,15 +46,15 @@ impl<S: Serializer> Writer<'_, S> {
         self.put("preempting", step.line.preempting)?;
         self.put_assignments(thread, step.assignments.as_slice())?;
         self.put("step", at)?;
-        self.put("stop", step.line.stop.map(stop_word))?;
+        self.put("stop", step.line.stop.map(stop_reason_word))?;
         self.put("thread", thread)?;
         self.put_allocated("woken", facts.thread_names(step.woken.as_slice()))?;
         self.out.end_map()
     }
 
-    // Writes the object `after`: the states, after a step, of the objects that it touched, by name.
-    // No two objects share a name, so that a name is in one of the four maps.
-    fn put_after(&mut self, step: &Step, objects: &ObjectStates<'_>) -> Written<S> {
+    // Writes the object `after`: the states after a step of its object and of a `wait`'s mutex, by
+    // rising name. No two objects share a name: each is in only one of the four maps of `objects`.
+    fn put_states_after(&mut self, step: &Step, objects: &ObjectStates<'_>) -> Written<S> {
         let touched = Some(self.facts.object_name(step.object));
         let beside = self.facts.wait_mutex_name(step);
         let names = [touched.min(beside), touched.max(beside)];
@@ -66,11 +69,11 @@ impl<S: Serializer> Writer<'_, S> {
         self.out.end_map()
     }
 
-    // Writes the state of an object before or after a step: a variable's value, the owner of a
-    // mutex or null, how many threads wait for a condition, or a semaphore's count.
-    fn put_object_state(&mut self, key: &str, reading: ObjectState) -> Written<S> {
+    // Writes a key and an object's state as its value: a variable's value, the owner of a mutex or
+    // null, how many threads wait for a condition, or a semaphore's count.
+    fn put_object_state(&mut self, key: &str, state: ObjectState) -> Written<S> {
         let facts = self.facts;
-        match reading {
+        match state {
             ObjectState::Value(value) => self.put(key, value),
             ObjectState::Owner(owner) => self.put(
                 key,
@@ -95,7 +98,7 @@ impl<S: Serializer> Writer<'_, S> {
         let statement = facts.statement(thread, instruction);
         self.out.begin_map(None)?;
         self.put_place(statement)?;
-        self.put_text(statement)?;
+        self.put_statement_text(statement)?;
         self.put_some("wants", wanted.map(|object| facts.object_name(object)))?;
         self.out.end_map()
     }

@@ -2,7 +2,7 @@
 
 use crate::facts::Facts;
 use crate::objects::ByName;
-use crate::words::{reason_word, status_word};
+use crate::words::{thread_status_word, wait_reason_word};
 use crate::writer::{Writer, Written};
 use explain::{Statement, ThreadState};
 use serde::Serializer;
@@ -20,20 +20,22 @@ struct UnblockingStatement<'a> {
 }
 
 impl Facts<'_> {
-    // The values of a thread's locals at the end of what ran, by name.
-    fn locals(&self, thread: u8, standing: &ThreadState) -> Result<ByName<'_, i64>, AllocError> {
+    // The values of a thread's locals in a state of the thread, by name: of as many locals as the
+    // program has for the thread, so none where it has no such thread.
+    fn local_values(&self, thread: u8, state: &ThreadState) -> Result<ByName<'_, i64>, AllocError> {
         let count = if thread < self.source.program.threads() {
             self.source.program.locals(thread)
         } else {
             0
         };
-        let values = standing.locals.iter().take(count).enumerate();
+        let values = state.locals.iter().take(count).enumerate();
         let locals = values.map(|(local, value)| (self.local_name(thread, local), *value));
         locals.collect(self.alloc)
     }
 
     // The statements that could end a wait, by thread, line and column. A statement in a `repeat`
-    // is one, though the thread's code has it several times.
+    // is one, though the thread's code has it several times: it is ahead where one of these is, and
+    // has the steps of all. A statement that has no place in the text is left out.
     fn unblocking_statements(
         &self,
         wait: &Wait,
@@ -63,21 +65,21 @@ impl<S: Serializer> Writer<'_, S> {
     pub fn put_threads(&mut self) -> Written<S> {
         let facts = self.facts;
         self.begin_list("threads")?;
-        for (standing, thread) in facts.explanation.thread_states().iter().zip(0u8..) {
+        for (state, thread) in facts.explanation.thread_states().iter().zip(0u8..) {
             self.out.begin_map(None)?;
-            self.put_place(facts.statement(thread, standing.instruction))?;
-            self.put_allocated("locals", facts.locals(thread, standing))?;
+            self.put_place(facts.statement(thread, state.instruction))?;
+            self.put_allocated("locals", facts.local_values(thread, state))?;
             self.put("name", facts.thread_name(thread))?;
-            self.put("status", status_word(standing))?;
-            self.put_wait(facts.waits.of(thread))?;
+            self.put("status", thread_status_word(state))?;
+            self.put_wait(facts.waits.get(thread))?;
             self.out.end_map()?;
         }
         self.out.end_seq()
     }
 
-    // Writes `waits`, null without a wait: what a thread waits for, of a mutex who owns it and
-    // since which step, the threads that are waited for, and the statements that could end the
-    // wait.
+    // Writes `waits`: what a thread waits for, of a mutex who owns it and since which step, the
+    // threads that it waits for, and the statements that could end the wait. Null where `wait` is
+    // `None`.
     fn put_wait(&mut self, wait: Option<&Wait>) -> Written<S> {
         let facts = self.facts;
         self.out.key("waits")?;
@@ -87,7 +89,7 @@ impl<S: Serializer> Writer<'_, S> {
         let mutex = wait.reason.mutex();
         let holder = mutex.and_then(|m| facts.explanation.holder(m));
         self.out.begin_map(None)?;
-        self.put("act", reason_word(wait.reason))?;
+        self.put("act", wait_reason_word(wait.reason))?;
         self.put_some("holder", holder.map(|h| facts.thread_name(h.thread)))?;
         self.put("object", facts.object_name(wait.reason.object()))?;
         self.put_allocated("on", facts.thread_names_in(wait.on))?;
@@ -96,10 +98,11 @@ impl<S: Serializer> Writer<'_, S> {
         self.out.end_map()
     }
 
-    // Writes the list `statements`: those that could end a wait.
+    // Writes the list `statements`: those that could end a wait, each with its thread, its place,
+    // whether the thread may still come to it, and the steps that carried it out.
     fn put_unblocking_statements(&mut self, wait: &Wait) -> Written<S> {
         let facts = self.facts;
-        let statements = self.allocated(facts.unblocking_statements(wait))?;
+        let statements = self.convert_alloc_error(facts.unblocking_statements(wait))?;
         self.begin_list("statements")?;
         for found in statements.values() {
             self.out.begin_map(None)?;
@@ -107,7 +110,7 @@ impl<S: Serializer> Writer<'_, S> {
             self.put_place(found.statement)?;
             self.put("name", facts.thread_name(found.statement.thread))?;
             self.put("taken", &found.taken)?;
-            self.put_text(found.statement)?;
+            self.put_statement_text(found.statement)?;
             self.out.end_map()?;
         }
         self.out.end_seq()

@@ -15,7 +15,7 @@ pub fn kind_word(kind: Kind) -> &'static str {
 }
 
 /// The word for why a thread stopped.
-pub fn stop_word(stop: Stop) -> &'static str {
+pub fn stop_reason_word(stop: Stop) -> &'static str {
     match stop {
         Stop::Assert => "assert",
         Stop::NotHeld => "not-held",
@@ -23,18 +23,18 @@ pub fn stop_word(stop: Stop) -> &'static str {
     }
 }
 
-/// The word for how a thread is at the end of what ran: ended, stopped, blocked or enabled.
-pub fn status_word(standing: &ThreadState) -> &'static str {
-    match standing.status {
+/// The word for how a thread is: ended, stopped, blocked (it waits for something) or enabled.
+pub fn thread_status_word(state: &ThreadState) -> &'static str {
+    match state.status {
         Status::Ended => "ended",
         Status::Stopped(_) => "stopped",
-        _ if standing.reason.is_some() => "blocked",
+        _ if state.reason.is_some() => "blocked",
         _ => "enabled",
     }
 }
 
-/// The word for what a blocked thread waits to do; `signal` for one that waits for a condition.
-pub fn reason_word(reason: Reason) -> &'static str {
+/// The word for what a blocked thread waits to do; of one that waits for a condition, `signal`.
+pub fn wait_reason_word(reason: Reason) -> &'static str {
     match reason {
         Reason::Lock(_) => "lock",
         Reason::Retake(_) => "retake",

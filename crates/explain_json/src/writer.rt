@@ -2,7 +2,7 @@
 
 use crate::facts::Facts;
 use crate::objects::ObjectStates;
-use crate::words::{kind_word, stop_word};
+use crate::words::{kind_word, stop_reason_word};
 use explain::{Object, name_text};
 use serde::{Described, Serialize, Serializer};
 use std::alloc::AllocError;
@@ -20,6 +20,7 @@ pub struct Writer<'w, S> {
 impl Described for Facts<'_> {}
 
 impl Serialize for Facts<'_> {
+    /// Writes the whole explanation that the facts are of, as an object.
     fn serialize<S: Serializer>(&self, out: &mut S) -> Result<(), S::Error> {
         let mut writer = Writer { facts: self, out };
         let done = writer.put_explanation();
@@ -49,7 +50,7 @@ impl<S: Serializer> Writer<'_, S> {
         key: &str,
         value: Result<T, AllocError>,
     ) -> Written<S> {
-        let value = self.allocated(value)?;
+        let value = self.convert_alloc_error(value)?;
         self.put(key, value)
     }
 
@@ -65,9 +66,9 @@ impl<S: Serializer> Writer<'_, S> {
         self.out.begin_map(None)
     }
 
-    /// A value that took memory to make, or, where memory ran out for it, an error of the
-    /// serializer.
-    pub fn allocated<T>(&self, value: Result<T, AllocError>) -> Result<T, S::Error> {
+    /// Keeps a value that took memory to make; turns the error that memory ran out for it into one
+    /// of the serializer.
+    pub fn convert_alloc_error<T>(&self, value: Result<T, AllocError>) -> Result<T, S::Error> {
         value.map_err(|_| self.out.custom("out of memory"))
     }
 
@@ -76,19 +77,19 @@ impl<S: Serializer> Writer<'_, S> {
     fn put_explanation(&mut self) -> Written<S> {
         let facts = self.facts;
         self.out.begin_map(None)?;
-        self.put_allocated("circles", facts.circle_names())?;
+        self.put_allocated("circles", facts.circle_thread_names())?;
         self.put_allocated("end", ObjectStates::at_end(facts))?;
         self.put_failures()?;
         self.put("file", name_text(facts.source.file))?;
         self.put("kind", facts.explanation.kind().map(kind_word))?;
         if facts.why.is_some() {
-            let marks = self.allocated(facts.file_runs())?;
+            let marks = self.convert_alloc_error(facts.file_runs())?;
             self.put_some("marks", marks)?;
         }
         self.put_initial_state()?;
         self.put("preemptions", facts.explanation.preemptions())?;
         self.put("refused", facts.explanation.refused())?;
-        self.put_allocated("schedule", facts.schedule())?;
+        self.put_allocated("schedule", facts.printed_schedule())?;
         self.put("search", &facts.search)?;
         self.put_some("source", facts.why.map(|_| name_text(facts.source.text)))?;
         self.put_steps()?;
@@ -97,10 +98,12 @@ impl<S: Serializer> Writer<'_, S> {
         self.out.end_map()
     }
 
-    // Writes the member `opening`: the initial state of the objects and the threads.
+    // Writes the object `opening`: the names of the conditions and mutexes, which nobody waits for
+    // or owns at first, those of the variables as `declared`, in order, the initial counts of
+    // semaphores and values of variables, and the threads.
     fn put_initial_state(&mut self) -> Written<S> {
         let facts = self.facts;
-        let objects = self.allocated(ObjectStates::initial(facts))?;
+        let objects = self.convert_alloc_error(ObjectStates::initial(facts))?;
         let variables = facts.source.program.variables();
         self.begin_object("opening")?;
         self.put_allocated("conditions", facts.condition_names())?;
@@ -122,7 +125,7 @@ impl<S: Serializer> Writer<'_, S> {
             self.put("name", facts.thread_name(thread))?;
             self.put_next_statement(thread, start.next)?;
             self.put_assignments(thread, start.assignments.as_slice())?;
-            self.put("stop", start.stop.map(stop_word))?;
+            self.put("stop", start.stop.map(stop_reason_word))?;
             self.out.end_map()?;
         }
         self.out.end_seq()

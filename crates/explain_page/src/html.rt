@@ -28,12 +28,13 @@ pub fn explanation_html<'a>(
     let data = page_json(alloc, explanation, source, search, why)?;
     let mut page = Vec::from_slice(alloc, HEAD.as_bytes())?;
     page.extend_from_slice(PAGE_BEGIN.as_bytes())?;
-    put_json(&mut page, alloc, data.as_slice())?;
+    put_script_json(&mut page, alloc, data.as_slice())?;
     page.extend_from_slice(PAGE_END.as_bytes())?;
     Ok(page)
 }
 
-/// The page where a search found no bad schedule: the sentence that says so, with the file's name.
+/// The page for a search that found no bad schedule: the name of the file, and `sentence`, which
+/// says that the search found none.
 ///
 /// # Errors
 ///
@@ -41,17 +42,17 @@ pub fn explanation_html<'a>(
 pub fn no_schedule_html(alloc: Global, file: &str, sentence: &str) -> Result<Vec<u8>, AllocError> {
     let mut page = Vec::from_slice(alloc, HEAD.as_bytes())?;
     page.extend_from_slice(SENTENCE_BEGIN.as_bytes())?;
-    put_escaped(&mut page, file)?;
+    put_escaped_text(&mut page, file)?;
     page.extend_from_slice(SENTENCE_MIDDLE.as_bytes())?;
-    put_escaped(&mut page, sentence)?;
+    put_escaped_text(&mut page, sentence)?;
     page.extend_from_slice(SENTENCE_END.as_bytes())?;
     Ok(page)
 }
 
-// Adds words as the text of an element. Each `<` and `&` is escaped, so that a browser shows the
-// words as they are.
-fn put_escaped(page: &mut Vec<u8>, words: &str) -> Result<(), AllocError> {
-    for byte in words.as_bytes() {
+// Adds a text as that of an element. Each `<` and `&` is escaped, so that a browser shows the text
+// as it is.
+fn put_escaped_text(page: &mut Vec<u8>, text: &str) -> Result<(), AllocError> {
+    for byte in text.as_bytes() {
         match *byte {
             b'<' => page.extend_from_slice(b"&lt;")?,
             b'&' => page.extend_from_slice(b"&amp;")?,
@@ -61,9 +62,10 @@ fn put_escaped(page: &mut Vec<u8>, words: &str) -> Result<(), AllocError> {
     Ok(())
 }
 
-// Adds JSON as the text of a script element. Each `<` is escaped, so that nothing in the JSON ends
-// the element, and each number that a script would round is put in quotes.
-fn put_json(page: &mut Vec<u8>, alloc: Global, data: &[u8]) -> Result<(), AllocError> {
+// Adds the JSON of an object as the text of a script element. Each `<` is escaped, so that nothing
+// in the JSON ends the element, and each number that a script might round is put in quotes. `alloc`
+// is for the bytes of one number.
+fn put_script_json(page: &mut Vec<u8>, alloc: Global, data: &[u8]) -> Result<(), AllocError> {
     let mut number = Vec::new(alloc);
     let mut is_text = false;
     let mut is_escaped = false;

@@ -1,4 +1,4 @@
-//! The head of the text: how a schedule ended, and why a thread failed.
+//! The head of the text: how a schedule ended, and why a thread stopped in an error.
 
 use crate::origins::ValueLayout;
 use crate::text::TextWriter;
@@ -9,7 +9,7 @@ use semantics::view::Kind;
 use std::alloc::AllocError;
 use text_lines::{Count, Page};
 
-/// The column at which a line begins that says why a thread failed.
+/// The column at which a line begins that says why a thread stopped in an error.
 const REASON_INDENT: usize = 4;
 /// The column at which what doesn't fit into a line goes on in the next one.
 const INDENT: usize = 8;
@@ -22,8 +22,8 @@ const VALUE_LAYOUT: ValueLayout = ValueLayout {
 };
 
 impl TextWriter<'_> {
-    /// Writes how the schedule ended and after how many steps and preemptions; where a thread
-    /// failed, also at which statement and why.
+    /// Writes how the schedule ended, or that it isn't complete, and after how many steps and
+    /// preemptions; where a thread stopped in an error, also at which statement and why.
     pub fn put_head(&self, page: &mut Page) -> Result<(), AllocError> {
         if let Some(failure) = self.causes.failure()
             && let Some(event) = self.event(failure.event)
@@ -42,9 +42,9 @@ impl TextWriter<'_> {
         page.put_line(head.as_str(), INDENT)
     }
 
-    // The name of the file that the guest's lines come from, by a preprocessor's marks if it has
-    // any; where they come from several files, or no thread has a statement, of the file that was
-    // read.
+    // The name of the file that the guest's lines come from, by a preprocessor's marks if there are
+    // any. Where the lines come from several files, or no thread has a statement, it is the name of
+    // the file that was read.
     fn main_file_name(&self) -> &str {
         (0..self.source.program.threads())
             .map(|thread| self.line(thread, 0))
@@ -52,8 +52,8 @@ impl TextWriter<'_> {
             .map_or(self.file_name(), |line| line.file)
     }
 
-    // As text, after how many steps and preemptions the schedule ended, and, where a search showed
-    // it, that no schedule with fewer preemptions is bad.
+    // As text, these numbers of steps and preemptions, and, where a search showed it, that no
+    // schedule with fewer preemptions than the explained one is bad.
     fn counts_text(&self, steps: usize, preemptions: usize) -> Result<String, AllocError> {
         let least = match self.explanation.preemptions() {
             1 if self.layout.is_fewest => " No schedule with 0 is bad.",
@@ -65,7 +65,8 @@ impl TextWriter<'_> {
     }
 
     // Writes which statement of which thread failed, after how many steps and preemptions, and why:
-    // of an assertion where its values came from, of an `unlock` or a `wait` who owned the mutex.
+    // of an assertion where its values came from, of an `unlock` or a `wait` who owned the mutex,
+    // of a `release` that the count is at its limit.
     fn put_failure(
         &self,
         page: &mut Page,
@@ -99,7 +100,7 @@ impl TextWriter<'_> {
     // The thread that owned a mutex before the event at a place of the run, and since which step;
     // `None` where the mutex was free.
     fn holder_before(&self, at: usize, mutex: usize) -> Option<Holder> {
-        let event = self.event(self.causes.taker(at, mutex)?)?;
+        let event = self.event(self.causes.owned_since(at, mutex)?)?;
         Some(Holder {
             thread: event.thread,
             since: event.step?,

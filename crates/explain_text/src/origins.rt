@@ -31,9 +31,9 @@ struct PendingLocal {
 }
 
 impl TextWriter<'_> {
-    /// Writes the locals of an expression, which the event at a place evaluates, each with its
-    /// value and where that came from; under a local that a `set` computed, the locals of that
-    /// `set`.
+    /// Writes the locals of the expression that the event at place `at` of the run evaluates, each
+    /// with its value and where that came from; under a local that a `set` computed, the locals of
+    /// that `set`. Writes at most as many as `layout` says.
     pub fn put_values(
         &self,
         page: &mut Page,
@@ -49,8 +49,8 @@ impl TextWriter<'_> {
                 return Ok(());
             };
             let name = self.local_name(thread, local);
-            let setting = self.event_with_place(self.causes.setter(at, thread, local));
-            let words = self.value_origin(name, setting, layout.is_later_change_told)?;
+            let setting = self.event_with_place(self.causes.last_assignment(at, thread, local));
+            let words = self.value_origin_text(name, setting, layout.is_later_change_told)?;
             page.put_indented(words.as_str(), indent, indent.saturating_add(INDENT))?;
             if let Some((at, event)) = setting
                 && let Instruction::Set { value, .. } = event.statement
@@ -61,14 +61,18 @@ impl TextWriter<'_> {
         Ok(())
     }
 
-    // The event at a place, after the place itself; `None` where no place is given.
+    // The place `at` in the run, and the event there; `None` where `at` is `None`, or where the run
+    // has no event at that place.
     fn event_with_place(&self, at: Option<usize>) -> Option<(usize, Event)> {
         Some((at?, self.event(at?)?))
     }
 
     // As text, a local, its value, and where the value came from: `setting` is the event that set
-    // the local, with its place; `None` where the local still is 0 as at the start.
-    fn value_origin(
+    // the local, with its place; `None` where the local still is 0 as at the start. Of a value that
+    // was read from a variable, also who wrote the variable last before the read. Which other
+    // thread changed it first after the read is told if `is_later_change_told` is true, or if
+    // nobody wrote it before the read, which may then have come too early.
+    fn value_origin_text(
         &self,
         name: &str,
         setting: Option<(usize, Event)>,
@@ -99,17 +103,17 @@ impl TextWriter<'_> {
             }
             _ => write!(words, "read in step {step} ({site}) from {x}")?,
         }
-        words.push_str(self.last_write(event.thread, at, variable)?.as_str())?;
-        if is_later_change_told || self.causes.writer(at, variable).is_none() {
-            words.push_str(self.later_change(event.thread, at, variable)?.as_str())?;
+        words.push_str(self.writer_text(event.thread, at, variable)?.as_str())?;
+        if is_later_change_told || self.causes.last_write(at, variable).is_none() {
+            words.push_str(self.overwrite_text(event.thread, at, variable)?.as_str())?;
         }
         Ok(words)
     }
 
-    // As text, who wrote a variable last before thread `reader` read it, in the event at a place,
-    // and what its value was before that write.
-    fn last_write(&self, reader: u8, at: usize, variable: usize) -> Result<String, AllocError> {
-        let Some((at, event)) = self.event_with_place(self.causes.writer(at, variable)) else {
+    // As text, who wrote a variable last before thread `reader` read it in the event at place `at`,
+    // and what its value was before that write and since when; or that nobody had written it.
+    fn writer_text(&self, reader: u8, at: usize, variable: usize) -> Result<String, AllocError> {
+        let Some((at, event)) = self.event_with_place(self.causes.last_write(at, variable)) else {
             return ", which nobody had written before".to_string(self.alloc);
         };
         let is_own = reader == event.thread;
@@ -117,8 +121,8 @@ impl TextWriter<'_> {
         let (step, site) = (event.step.unwrap_or(0), self.event_site(&event));
         let (name, x) = (site.name, self.object_name(Object::Variable(variable)));
         let (old, _) = self.old_and_new(&event);
-        let since = match self.event_with_place(self.causes.writer(at, variable)) {
-            Some((_, earlier)) => self.since_step(&earlier)?,
+        let since = match self.event_with_place(self.causes.last_write(at, variable)) {
+            Some((_, earlier)) => self.since_step_text(&earlier)?,
             None => " from the start".to_string(self.alloc)?,
         };
         format!(in self.alloc;
@@ -128,22 +132,22 @@ impl TextWriter<'_> {
 
     // As text, since which step a variable has the value that an event wrote, and which thread was
     // preempted before that step, if one was.
-    fn since_step(&self, event: &Event) -> Result<String, AllocError> {
+    fn since_step_text(&self, event: &Event) -> Result<String, AllocError> {
         let (step, site) = (event.step.unwrap_or(0), self.event_site(event));
         let (name, line) = (site.name, site.line);
         let mut words = format!(in self.alloc; " since step {step} ({name}, {line})")?;
         if let Some(before) = step.checked_sub(1)
             && self.is_preempted_after(before)
-            && let Some(other) = self.thread_at(before)
+            && let Some(other) = self.thread_of_step(before)
         {
             write!(words, ", where {} was interrupted", self.thread_name(other))?;
         }
         Ok(words)
     }
 
-    // As text, which thread but the reader changed a variable first after the event at a place, and
-    // to what value; empty where none did.
-    fn later_change(&self, reader: u8, at: usize, variable: usize) -> Result<String, AllocError> {
+    // As text, which thread but `reader` changed a variable first after the event at place `at`,
+    // in which it was read, and to what value; empty where none did.
+    fn overwrite_text(&self, reader: u8, at: usize, variable: usize) -> Result<String, AllocError> {
         let mut later = self.causes.events().iter().skip(at);
         let next = later.find(|event| event.variable_written() == Some(variable)
             && event.thread != reader
@@ -162,7 +166,8 @@ impl TextWriter<'_> {
         old != new
     }
 
-    // The values of an event's variable before and after its step; zeros where it has no such step.
+    // The values of the variable that an event's step is on, before and after the step; zeros where
+    // the event belongs to no step, or to one that is on no variable.
     fn old_and_new(&self, event: &Event) -> (i64, i64) {
         let step = event.step.and_then(|at| self.step(at));
         match step.map(|step| (step.old, step.new)) {
@@ -172,8 +177,8 @@ impl TextWriter<'_> {
     }
 }
 
-// Pushes the locals of an expression, which the event at a place evaluates, so that the first local
-// is popped first; a local that is there twice is pushed once.
+// Pushes the locals of an expression, which the event at place `at` evaluates, to be shown `indent`
+// columns from the left. The first local is popped first; one that is there twice is pushed once.
 fn push_locals(
     stack: &mut Vec<PendingLocal>,
     at: usize,

@@ -2,7 +2,7 @@
 //!
 //! A circle is a set of threads each of which waits, through others if need be, for each of them.
 
-use crate::text::{TextWriter, push_word};
+use crate::text::{TextWriter, push_entry};
 use explain::{Holder, Object, Reason};
 use replay::Act;
 use semantics::mask::Mask;
@@ -29,9 +29,9 @@ struct Widths {
 }
 
 impl TextWriter<'_> {
-    /// Where the schedule is stuck or a thread failed, writes for each blocked thread why it can't
-    /// go on, and who could end the waits. Then writes why the schedule's next step can't be taken,
-    /// where it can't.
+    /// Where the schedule is stuck or a thread stopped in an error, writes for each blocked thread
+    /// why it can't go on, and who could end the waits. Then writes why the schedule's next step
+    /// can't be taken, where it can't, and which threads are still enabled, where some are.
     pub fn put_reasons(&self, page: &mut Page) -> Result<(), AllocError> {
         let title = match self.explanation.kind() {
             Some(Kind::Stuck) => Some("Why nobody can go on"),
@@ -52,25 +52,30 @@ impl TextWriter<'_> {
     // Writes a row for each blocked thread: circle by circle those that wait for one another, then
     // the threads that are in no circle.
     fn put_blocked_threads(&self, page: &mut Page) -> Result<(), AllocError> {
-        let widths = self.widths()?;
+        let widths = self.column_widths()?;
         for circle in self.waits.circles() {
             self.put_circle(page, *circle, widths)?;
         }
-        for wait in self.waits.all().iter().filter(|wait| wait.is_circle_free()) {
+        for wait in self
+            .waits
+            .all()
+            .iter()
+            .filter(|wait| wait.is_in_no_circle())
+        {
             self.put_wait_row(page, wait, "", widths)?;
         }
         Ok(())
     }
 
-    // Writes a row for each thread of a circle, of threads that wait for one another. A mark beside
-    // each shows that; where rows with marks are too wide, a line below them says it.
+    // Writes a row for each thread of a circle. Marks beside the rows show that these threads wait
+    // for one another; where the rows would be too wide with marks, a line below them says it.
     fn put_circle(&self, page: &mut Page, circle: Mask, widths: Widths) -> Result<(), AllocError> {
         let columns = widths.name.saturating_add(widths.place);
         let columns = columns.saturating_add(widths.reason);
         let is_marked = columns.saturating_add(GAPS_WIDTH + MARK_WIDTH) <= self.columns.width;
         let waits = self.waits.all().iter();
         let members: Vec<&Wait> = waits
-            .filter(|wait| circle.contains(wait.thread))
+            .filter(|wait| circle.has(wait.thread))
             .collect(self.alloc)?;
         let mut names = String::new(self.alloc);
         let length = members.len();
@@ -81,7 +86,7 @@ impl TextWriter<'_> {
                 ""
             };
             self.put_wait_row(page, wait, mark, widths)?;
-            push_word(&mut names, self.thread_name(wait.thread))?;
+            push_entry(&mut names, self.thread_name(wait.thread))?;
         }
         if is_marked {
             return Ok(());
@@ -93,8 +98,8 @@ impl TextWriter<'_> {
         page.put_line(words.as_str(), INDENT)
     }
 
-    // Writes the row of a blocked thread: its name, its statement, why it can't go on, and `mark`,
-    // which is empty where the thread is in no circle or marks don't fit.
+    // Writes the row of a blocked thread, in columns of these widths: its name, its statement, why
+    // it can't go on, and `mark`, which shows the circle that the thread is in, or is empty.
     fn put_wait_row(
         &self,
         page: &mut Page,
@@ -122,21 +127,23 @@ impl TextWriter<'_> {
         format!(in self.alloc; "at {line}: {action}")
     }
 
-    // How wide the columns have to be for the rows of all blocked threads.
-    fn widths(&self) -> Result<Widths, AllocError> {
+    // How wide the columns have to be for the rows of all blocked threads. The column of reasons is
+    // as wide as the threads in circles need it, since marks stand beside their rows alone.
+    fn column_widths(&self) -> Result<Widths, AllocError> {
         let mut widths = Widths::default();
         for wait in self.waits.all() {
             widths.name = width_of(self.thread_name(wait.thread)).max(widths.name);
             widths.place = width_of(self.blocked_site(wait)?.as_str()).max(widths.place);
-            if !wait.is_circle_free() {
+            if !wait.is_in_no_circle() {
                 widths.reason = width_of(self.reason_text(wait)?.as_str()).max(widths.reason);
             }
         }
         Ok(widths)
     }
 
-    // As text, why a blocked thread can't go on: who owns its mutex, who took the semaphore's last
-    // one, or since which step it waits for a condition.
+    // As text, why a blocked thread can't go on: who owns the mutex that it waits for, and whether
+    // that one has ended or stopped; that the semaphore is 0, and who acquired it last, if anyone
+    // did; or since which step the thread waits for a condition.
     fn reason_text(&self, wait: &Wait) -> Result<String, AllocError> {
         let name = self.object_name(wait.reason.object());
         match wait.reason {
@@ -163,7 +170,8 @@ impl TextWriter<'_> {
         }
     }
 
-    /// As text, that a mutex is held, by whom and since which step, or, without a holder, is free.
+    /// As text, that a mutex is held, by whom and since which step, or that it is free if `holder`
+    /// is `None`.
     pub fn holder_text(&self, mutex: usize, holder: Option<Holder>) -> Result<String, AllocError> {
         let name = self.object_name(Object::Mutex(mutex));
         let Some(Holder { thread, since }) = holder else {
@@ -186,8 +194,8 @@ impl TextWriter<'_> {
         }
     }
 
-    // Writes why the schedule's next step can't be taken, where it can't, and which threads could
-    // take one, where the schedule that ran isn't complete.
+    // Writes why the schedule's next step can't be taken, where it can't, and whether the run was
+    // over before it; then which threads are still enabled, where the schedule isn't complete.
     fn put_continuation(&self, page: &mut Page) -> Result<(), AllocError> {
         let kind = self.explanation.kind();
         let mut words = String::new(self.alloc);
@@ -215,7 +223,7 @@ impl TextWriter<'_> {
         for t in 0..self.source.program.threads() {
             let standing = self.explanation.thread_state(t);
             if standing.is_some_and(|standing| standing.is_enabled()) {
-                push_word(&mut names, format_args!("{} ({t})", self.thread_name(t)))?;
+                push_entry(&mut names, format_args!("{} ({t})", self.thread_name(t)))?;
             }
         }
         write!(words, "Could go on: {names}")
@@ -229,7 +237,7 @@ impl TextWriter<'_> {
             return write!(words, "there is no thread {thread}.");
         };
         write!(words, "{thread} {}", self.thread_name(thread))?;
-        match (self.waits.of(thread), standing.is_stopped()) {
+        match (self.waits.get(thread), standing.is_stopped()) {
             (Some(wait), _) => {
                 let (blocked, why) = (self.blocked_site(wait)?, self.reason_text(wait)?);
                 write!(words, " is blocked {blocked}; {why}.")

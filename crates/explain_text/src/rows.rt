@@ -1,6 +1,6 @@
 //! The rows of the table of the steps.
 
-use crate::text::{TextWriter, push_word};
+use crate::text::{TextWriter, push_entry};
 use explain::{Object, ObjectState, Step, ThreadState, op_text};
 use guest_code::program::{Expression, Instruction, Value};
 use replay::Act;
@@ -17,8 +17,10 @@ use text_lines::{
 const SHORTEST_LABEL: usize = 4;
 
 impl TextWriter<'_> {
-    /// Writes the table of the steps. The answer is how many steps have rows of their own; in a
-    /// long table, steps that matter less share rows.
+    /// Writes the table of the steps, with rows for threads that stopped before the first step, and
+    /// for all threads where the schedule ends in a deadlock. Where there are more steps than the
+    /// layout says, two or more in a row share one if they matter less: `has_own_row` is false of
+    /// them. The answer is how many steps have rows of their own.
     pub fn put_table(&self, page: &mut Page) -> Result<usize, AllocError> {
         self.put_header(page)?;
         self.put_initial_stops(page)?;
@@ -55,9 +57,9 @@ impl TextWriter<'_> {
         Ok(widest)
     }
 
-    /// The number of the thread that took the step at a place of the schedule; `None` if none ran
-    /// there.
-    pub fn thread_at(&self, at: usize) -> Option<u8> {
+    /// The number of the thread that took the step at a place of the schedule; `None` where no step
+    /// ran there.
+    pub fn thread_of_step(&self, at: usize) -> Option<u8> {
         self.step(at).map(|step| step.line.thread)
     }
 
@@ -68,10 +70,10 @@ impl TextWriter<'_> {
         next.is_some_and(|next| next.line.preempting)
     }
 
-    // Whether the step at a place, or what its thread did by itself after it, is in the cause of
-    // how the schedule ended; false where no step ran there.
+    // Whether the step at a place, or an event of the local run after it, is in the cause of how
+    // the schedule ended; false where no step ran there.
     fn is_in_cause(&self, at: usize) -> bool {
-        self.causes.steps().get(at).copied().unwrap_or(false)
+        self.causes.step_marks().get(at).copied().unwrap_or(false)
     }
 
     // Whether the step at a place has a row of its own where other steps share rows: it is in the
@@ -80,10 +82,10 @@ impl TextWriter<'_> {
     fn has_own_row(&self, at: usize) -> bool {
         self.is_in_cause(at)
             || self.is_preempted_after(at)
-            || self.thread_at(at.saturating_sub(1)) != self.thread_at(at)
+            || self.thread_of_step(at.saturating_sub(1)) != self.thread_of_step(at)
     }
 
-    // Writes the names of the columns, and a line of dashes under each name.
+    // Writes the names of the table's columns, and below them a line of dashes for each column.
     fn put_header(&self, page: &mut Page) -> Result<(), AllocError> {
         let columns = self.columns;
         let mut header = Header {
@@ -122,8 +124,8 @@ impl TextWriter<'_> {
         Ok(())
     }
 
-    // Writes one row for the steps of the places `from..to`, which are of one thread, or, where
-    // that is a single step, the step's own rows. The answer is how many steps share a row: 0 where
+    // Writes one row for the steps of the places `from..to`, which are of one thread; for a single
+    // step its own rows, and for none nothing. The answer is how many steps share the row: 0 where
     // there is at most one.
     fn put_folded_steps(
         &self,
@@ -143,12 +145,12 @@ impl TextWriter<'_> {
         pad_to(&mut row, self.columns.start(0))?;
         let cell = format!(in self.alloc; ".. {} of {name} ..", Count(steps.len(), "step"))?;
         self.put_clipped(&mut row, cell.as_str())?;
-        self.put_row(page, row.as_str(), self.values_after(steps)?.as_str())?;
+        self.put_row(page, row.as_str(), self.changed_values(steps)?.as_str())?;
         Ok(steps.len())
     }
 
-    // As text, the variables that these steps change, each with its value after the last of them.
-    fn values_after(&self, steps: &[Step]) -> Result<String, AllocError> {
+    // As text, each variable that one of these steps changes, with its value after the last step.
+    fn changed_values(&self, steps: &[Step]) -> Result<String, AllocError> {
         let mut changes = String::new(self.alloc);
         for x in 0..self.source.program.variables() as usize {
             let x = Object::Variable(x);
@@ -158,26 +160,27 @@ impl TextWriter<'_> {
                 && let ObjectState::Value(value) = step.new
             {
                 let name = self.object_name(x);
-                push_word(&mut changes, format_args!("{name} {value}"))?;
+                push_entry(&mut changes, format_args!("{name} {value}"))?;
             }
         }
         Ok(changes)
     }
 
-    // Adds words to a row, cut off where the columns of the threads end.
+    // Adds `words` to a row, cut off where the columns of the threads end.
     fn put_clipped(&self, row: &mut String, words: &str) -> Result<(), AllocError> {
         let room = self.columns.end().saturating_sub(width_of(row.as_str()));
         put_truncated(row, words, room)
     }
 
-    // Writes a row, and in its last column `changes`, in further lines where they don't fit.
+    // Writes a row with `changes` in its last column; what doesn't fit there goes to further lines.
     fn put_row(&self, page: &mut Page, row: &str, changes: &str) -> Result<(), AllocError> {
         page.put_columns(row, changes, self.columns.changes, self.columns.changes)
     }
 
     // Adds to a row, which has only its first column, the line of an instruction and, in the column
     // of its thread, `action`, which says what the thread does there. Where the column is shared,
-    // the thread's name comes before `action`, cut off so far that both fit.
+    // the thread's name comes before `action`. Where both don't fit, the name is cut off, but not
+    // below `SHORTEST_LABEL` columns, and then `action`.
     fn put_action(
         &self,
         row: &mut String,
@@ -198,8 +201,8 @@ impl TextWriter<'_> {
         self.put_clipped(row, action)
     }
 
-    // Adds the name of a thread and a colon. Of a name with more columns than `room` it adds only
-    // the beginning, or the thread's number where the name of another thread begins alike.
+    // Adds the name of a thread and a colon. Of a name with more columns than `room` it adds the
+    // beginning and two dots, or the thread's number where another name has the same beginning.
     fn put_thread_label(
         &self,
         row: &mut String,
@@ -221,8 +224,9 @@ impl TextWriter<'_> {
         row.push_str(": ")
     }
 
-    // Writes the row of the step at a place; under it, where it is so, a row that says which
-    // assertion failed after the step, and one that says that the step's thread was preempted.
+    // Writes the row of the step at a place, if one ran there. If an assertion failed in the local
+    // run after the step, a row below says which; if the step's thread was preempted, another row
+    // says that.
     fn put_step_rows(&self, page: &mut Page, at: usize) -> Result<(), AllocError> {
         let Some(step) = self.step(at) else {
             return Ok(());
@@ -237,17 +241,17 @@ impl TextWriter<'_> {
             self.put_stop_row(page, format!(in self.alloc; "{at:>4}")?, thread)?;
         }
         if self.is_preempted_after(at) {
-            self.put_preemption(page, step)?;
+            self.put_preemption_row(page, step)?;
         }
         Ok(())
     }
 
     // As text, what the step at a place changed: its object, and the locals that its thread set in
-    // the step and by itself after it. Of a store in the cause it says, too, if another thread
-    // wrote the variable since the storing thread used it last.
+    // the step and in the local run after it. Of a store in the cause of how the schedule ended,
+    // also which other thread wrote the variable since the storing thread used it last, if one did.
     fn changes_text(&self, at: usize, step: &Step) -> Result<String, AllocError> {
         let thread = step.line.thread;
-        let mut changes = self.object_change(step)?;
+        let mut changes = self.object_change_text(step)?;
         for setting in step.assignments.iter() {
             if !changes.is_empty() {
                 changes.push_str("; ")?;
@@ -266,9 +270,9 @@ impl TextWriter<'_> {
         Ok(changes)
     }
 
-    // As text, what a step did to its object, or, after `FALSE:`, why its thread stopped instead.
-    // It is empty for a load.
-    fn object_change(&self, step: &Step) -> Result<String, AllocError> {
+    // As text, what a step did to its object, and whom it woke, or, after `FALSE:`, why its thread
+    // stopped instead. It is empty for a load.
+    fn object_change_text(&self, step: &Step) -> Result<String, AllocError> {
         let name = self.object_name(step.object);
         match (step.line.act, step.line.stop) {
             (Act::Unlock(m) | Act::Wait { mutex: m, .. }, Some(Stop::NotHeld)) => {
@@ -288,13 +292,14 @@ impl TextWriter<'_> {
             (Act::Signal(_) | Act::Broadcast(_), _) => {
                 format!(in self.alloc; "wakes {}", self.thread_names(step.woken.as_slice())?)
             }
-            _ => self.state_change(name, step),
+            _ => self.state_change_text(name, step),
         }
     }
 
     // As text, how a step changed the object of this name: the value of a variable or the count of
-    // a semaphore before and after the step, as `x 1 -> 2`, or who owns a mutex after it.
-    fn state_change(&self, name: &str, step: &Step) -> Result<String, AllocError> {
+    // a semaphore before and after the step, as `x 1 -> 2`, or `x 1 (unchanged)` for a value that
+    // stays; or who owns a mutex after it. Empty for a condition.
+    fn state_change_text(&self, name: &str, step: &Step) -> Result<String, AllocError> {
         match (step.old, step.new) {
             (_, ObjectState::Owner(Some(owner))) => {
                 format!(in self.alloc; "{name} -> {}", self.thread_name(owner))
@@ -313,9 +318,10 @@ impl TextWriter<'_> {
         }
     }
 
-    // Of a store, the step at a place: which other thread wrote the variable last since the storing
-    // thread's previous use of it, and the place of that use. `None` where no other thread wrote it
-    // since, or where the step is no store or isn't in the cause of how the schedule ended.
+    // Where `store`, the step at place `at`, is a store in the cause of how the schedule ended:
+    // which other thread wrote the variable last since the storing thread's previous use of it, and
+    // the place of that use. `None` for any other step, where there is no previous use, or where no
+    // other thread wrote the variable since.
     fn intervening_writer(&self, at: usize, store: &Step) -> Option<(u8, usize)> {
         if !self.is_in_cause(at) || !matches!(store.line.act, Act::Store { .. }) {
             return None;
@@ -329,8 +335,8 @@ impl TextWriter<'_> {
         Some((writes.last()?.line.thread, since))
     }
 
-    // Writes the row of the assertion that stopped a thread. `row` has the row's first column: the
-    // number of the step after which the thread came to the assertion, or `start`.
+    // Writes the row of the assertion that stopped a thread, if there is such a thread. `row` has
+    // its first column: the number of the step that led to the assertion, or `start`.
     fn put_stop_row(&self, page: &mut Page, mut row: String, thread: u8) -> Result<(), AllocError> {
         let Some(standing) = self.explanation.thread_state(thread) else {
             return Ok(());
@@ -343,7 +349,7 @@ impl TextWriter<'_> {
         self.put_row(page, row.as_str(), changes.as_str())
     }
 
-    // As text, an assertion that failed, with values for its locals, as `FALSE: 1 == 2`.
+    // As text, an assertion that failed, with the values of locals in this state: `FALSE: 1 == 2`.
     fn assertion_text(
         &self,
         standing: &ThreadState,
@@ -363,7 +369,7 @@ impl TextWriter<'_> {
 
     // Writes a row, to stand below that of a step, which says that the step's thread was preempted,
     // and before which of its statements.
-    fn put_preemption(&self, page: &mut Page, step: &Step) -> Result<(), AllocError> {
+    fn put_preemption_row(&self, page: &mut Page, step: &Step) -> Result<(), AllocError> {
         let column = self.columns.start(step.line.thread as usize);
         let row = format!(in self.alloc; "{:column$}{:~<COLUMN$}", "", "")?;
         let site = self.site(step.line.thread, step.next);
@@ -371,9 +377,8 @@ impl TextWriter<'_> {
         page.put_columns(row.as_str(), words.as_str(), 0, column)
     }
 
-    // Where the schedule ends in a deadlock, writes for each thread with a column of its own
-    // whether it has ended or is blocked and where, and in a second row what the blocked ones can't
-    // do.
+    // In a deadlock, writes for each thread with a column of its own whether it has ended or is
+    // blocked and where, and in a second row what the blocked ones can't do.
     fn put_end_rows(&self, page: &mut Page) -> Result<(), AllocError> {
         if self.explanation.kind() != Some(Kind::Stuck) || self.columns.own == 0 {
             return Ok(());
@@ -390,8 +395,8 @@ impl TextWriter<'_> {
         page.put_unwrapped(under.as_str())
     }
 
-    // Adds to `row` whether a thread has ended or is blocked and where, and to `under`, the next
-    // row, what a blocked thread can't do.
+    // Adds to `row` whether a thread has ended or is blocked, with the line where that fits into
+    // the thread's column, and to `under`, the next row, what a blocked thread can't do.
     fn put_end_cells(
         &self,
         row: &mut String,
@@ -400,11 +405,10 @@ impl TextWriter<'_> {
     ) -> Result<(), AllocError> {
         let start = self.columns.start(thread as usize);
         pad_to(row, start)?;
-        let Some(wait) = self.waits.of(thread) else {
+        let Some(wait) = self.waits.get(thread) else {
             return row.push_str("ended");
         };
         let blocked = format!(in self.alloc; "BLOCKED at {}", self.line_at_end(thread))?;
-        // The place of a line of another file may be wider than a column; it is told below.
         row.push_str(if blocked.len() > COLUMN + 1 {
             "BLOCKED"
         } else {

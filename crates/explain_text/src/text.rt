@@ -38,8 +38,9 @@ pub struct TextWriter<'a> {
     pub columns: Columns,
 }
 
-/// The explanation as text: a column for each thread, and lines at most as wide as the layout says.
-/// Only the last line, the command that replays the schedule, may be longer.
+/// The explanation as text: how the schedule ended, a table of its steps with columns for the
+/// threads, and why threads can't go on. No line is wider than the layout says but the last one,
+/// the command that replays the schedule.
 ///
 /// # Errors
 ///
@@ -78,21 +79,22 @@ pub struct Site<'a> {
 }
 
 impl fmt::Display for Site<'_> {
+    /// Writes the line and the statement: `line 12: lock m`.
     fn fmt<W: fmt::Write>(&self, f: &mut fmt::Formatter<W>) -> fmt::Result {
         write!(f, "{}: {}", self.line, self.statement)
     }
 }
 
-/// Adds a word to a list of words, after a comma unless it is the first.
-pub fn push_word<D: fmt::Display + Drop>(list: &mut String, word: D) -> Result<(), AllocError> {
+/// Adds an entry to a text that lists entries, after a comma unless it is the first.
+pub fn push_entry<D: fmt::Display + Drop>(list: &mut String, entry: D) -> Result<(), AllocError> {
     if !list.is_empty() {
         list.push_str(", ")?;
     }
-    list.write(word)
+    list.write(entry)
 }
 
-// A word of a command as a shell reads it: in quotes where it is empty or has other bytes than
-// letters, digits and `_-./+,@%`.
+// A word of a command, spelled so that a shell takes it as it is: in quotes where it is empty or
+// has other bytes than letters, digits and `_-./+,@%`.
 fn shell_quoted(alloc: Global, word: &str) -> Result<String, AllocError> {
     let is_plain = |byte: &u8| byte.is_ascii_alphanumeric() || b"_-./+,@%".contains(byte);
     if !word.is_empty() && word.as_bytes().iter().all(is_plain) {
@@ -102,7 +104,8 @@ fn shell_quoted(alloc: Global, word: &str) -> Result<String, AllocError> {
 }
 
 impl<'a> TextWriter<'a> {
-    // A writer of the text of an explanation; its columns leave room for the widest line number.
+    // A writer of the text of an explanation, with the columns that the table of its steps needs.
+    // It is made without them first, since it is asked how wide the column of lines has to be.
     fn new(
         alloc: Global,
         explanation: &'a Explanation,
@@ -124,8 +127,8 @@ impl<'a> TextWriter<'a> {
         Ok(writer)
     }
 
-    // The whole text: how the schedule ends and why, with the table of its steps or without, and
-    // the command that replays it.
+    // The whole text: how the schedule ends and why, with the table of its steps or without, how
+    // many steps the table shows if not each, and the command that replays the schedule.
     fn text(&self, with_steps: bool) -> Result<Vec<u8>, AllocError> {
         let mut page = Page::new(self.alloc, self.columns.width);
         self.put_head(&mut page)?;
@@ -147,7 +150,8 @@ impl<'a> TextWriter<'a> {
         Ok(page.into_bytes())
     }
 
-    // The last line of the text: the command that replays the steps that ran.
+    // The last line of the text: the command that replays the steps that ran. `-`, the schedule
+    // without steps, would stand for a spelling that isn't UTF-8, which none is.
     fn replay_command(&self) -> Result<String, AllocError> {
         let ran = self.explanation.steps().len();
         let schedule = self.explanation.schedule().get(..ran).unwrap_or(&[]);
@@ -171,17 +175,17 @@ impl<'a> TextWriter<'a> {
     pub fn thread_names(&self, threads: &[u8]) -> Result<String, AllocError> {
         let mut names = String::new(self.alloc);
         for thread in threads {
-            push_word(&mut names, self.thread_name(*thread))?;
+            push_entry(&mut names, self.thread_name(*thread))?;
         }
         Ok(names)
     }
 
-    /// The name of an object.
+    /// The name of an object of the guest; `?` where there is no such object.
     pub fn object_name(&self, object: Object) -> &'a str {
         name_text(self.source.object_name(object))
     }
 
-    /// The name of a local of a thread.
+    /// The name of a local of a thread; `?` where there is no such local.
     pub fn local_name(&self, thread: u8, local: usize) -> &'a str {
         name_text(self.source.local_name(thread, local))
     }
@@ -191,13 +195,14 @@ impl<'a> TextWriter<'a> {
         self.explanation.steps().get(at)
     }
 
-    /// What happened at a place in the run, of which both the steps and what threads did by
-    /// themselves are events; `None` past the last event.
+    /// The event at place `at` among the events of the run, which are the steps, the statements in
+    /// local runs, and the threads that are blocked at the end; `None` past the last event.
     pub fn event(&self, at: usize) -> Option<Event> {
         self.causes.events().get(at).copied()
     }
 
-    /// The line in which an instruction of a thread is, of the file that it comes from.
+    /// The line that a thread's instruction is in: of the file that a preprocessor's marks tell, or
+    /// else of the guest's own; line 0 where there is no such instruction.
     pub fn line(&self, thread: u8, instruction: usize) -> FileLine<'_> {
         let line = self.source.line(thread, instruction);
         self.marks.file_line(self.file_name(), line)
@@ -210,7 +215,8 @@ impl<'a> TextWriter<'a> {
         standing.map_or(0, |standing| standing.instruction)
     }
 
-    /// The line of the statement that a thread has come to at the end of the run.
+    /// The line of the statement that a thread has come to at the end of the run; line 0 where the
+    /// thread has ended, or no thread has this number.
     pub fn line_at_end(&self, thread: u8) -> FileLine<'_> {
         self.line(thread, self.instruction_at_end(thread))
     }

@@ -20,7 +20,7 @@ const VALUE_LAYOUT: ValueLayout = ValueLayout {
 };
 
 impl TextWriter<'_> {
-    /// Writes, for each condition and each semaphore that threads wait for, which threads have
+    /// Writes, once for each condition and each semaphore that threads wait for, which threads have
     /// statements that could end the waits, and what came of these statements.
     pub fn put_unblocking(&self, page: &mut Page) -> Result<(), AllocError> {
         let waits = self.waits.all();
@@ -41,8 +41,8 @@ impl TextWriter<'_> {
     }
 
     // Writes which threads have statements that could end this wait, or another wait for the same
-    // condition or semaphore, and what came of these statements; where no thread can, that nobody
-    // is left.
+    // condition or semaphore, and what came of these statements. Where there are none, or none that
+    // a thread may still come to, writes that.
     fn put_unblocking_threads(&self, page: &mut Page, wait: &Wait) -> Result<(), AllocError> {
         let mut is_none = true;
         let mut is_one_ahead = false;
@@ -61,9 +61,9 @@ impl TextWriter<'_> {
         page.put_empty_line()
     }
 
-    // The statements of a thread that could end this wait. They are taken from the wait of another
-    // thread for the same reason, if there is one: in the list of its own wait, a thread has only
-    // the statements before that wait.
+    // The statements of a thread that could end this wait, or another for the same reason. If any
+    // other thread waits for that reason, they are taken from its wait: the list of a thread's own
+    // wait has, of its own statements, only those before the one at which it waits.
     fn unblocking_statements(&self, thread: u8, wait: &Wait) -> Result<Vec<Statement>, AllocError> {
         let mut others = self.waits.all().iter();
         let other = others.find(|other| other.reason == wait.reason && other.thread != thread);
@@ -73,9 +73,9 @@ impl TextWriter<'_> {
             .collect(self.alloc)
     }
 
-    // Writes what came of the statements of a thread that could end a wait: how often they were
-    // carried out, the first one that the thread may still come to, and the first that it jumped
-    // over.
+    // Writes what came of the statements of a thread that could end a wait, where there are such:
+    // how often they were carried out, the first one that the thread may still come to, and the
+    // first that it jumped over.
     fn put_statement_fates(
         &self,
         page: &mut Page,
@@ -96,7 +96,7 @@ impl TextWriter<'_> {
     }
 
     // Writes that a thread took `times` steps that could end a wait, the last one at place `at`,
-    // and whom that one woke.
+    // and whom that one woke if it was a `signal` or a `broadcast`. Nothing if no step ran there.
     fn put_taken(&self, page: &mut Page, at: usize, times: usize) -> Result<(), AllocError> {
         let Some(step) = self.step(at) else {
             return Ok(());
@@ -120,13 +120,14 @@ impl TextWriter<'_> {
         page.put_line(words.as_str(), INDENT)
     }
 
-    // Writes that a thread has yet to come to a statement, and what keeps the thread from it.
+    // Writes that a thread has yet to come to a statement, and, if it is blocked or has stopped,
+    // where.
     fn put_ahead(&self, page: &mut Page, ahead: Statement) -> Result<(), AllocError> {
         let thread = ahead.thread;
         let site = self.site(thread, ahead.instruction);
         let mut words = format!(in self.alloc; "  {} has yet to come to {}", site.name, site.line)?;
         let standing = self.explanation.thread_state(thread);
-        if let Some(wait) = self.waits.of(thread) {
+        if let Some(wait) = self.waits.get(thread) {
             write!(words, ", but is blocked {}", self.blocked_site(wait)?)?;
         } else if standing.is_some_and(|standing| standing.is_stopped()) {
             write!(words, ", but stopped at {}", self.line_at_end(thread))?;
@@ -134,7 +135,8 @@ impl TextWriter<'_> {
         page.put_line(words.as_str(), INDENT)
     }
 
-    // Writes that a thread jumped over a statement, and which test led past it, with its values.
+    // Writes that a thread jumped over a statement, and by which test, with its values, or by which
+    // `leave`.
     fn put_passed_by(&self, page: &mut Page, passed: Statement) -> Result<(), AllocError> {
         let site = self.site(passed.thread, passed.instruction);
         let mut words = format!(in self.alloc; "  {} passed by {site}", site.name)?;
@@ -155,9 +157,9 @@ impl TextWriter<'_> {
         page.put_line(words.as_str(), INDENT)
     }
 
-    // The event by which a thread jumped over a statement, with its place in the run: the test that
-    // did; where a jump without a test did, as by a `leave`, the innermost test round it, or else
-    // the jump itself. `None` where no event of the thread jumped over the statement.
+    // The event by which a thread jumped over a statement, with its place in the run: a test, or a
+    // jump without one, as a `leave`; instead of that jump the test of the innermost `if` round it,
+    // if there is one. `None` where no event of the thread jumped over the statement.
     fn bypassing_event(&self, passed: Statement) -> Option<(usize, Event)> {
         let (thread, instruction) = (passed.thread, passed.instruction);
         let mut events = self.causes.events().iter().copied().enumerate();
@@ -174,13 +176,14 @@ impl TextWriter<'_> {
     }
 }
 
-// The first of these statements of which `fate` says what came; `None` where there is none.
+// The first of these statements that had this fate: it was carried out, its thread may still come
+// to it, or its thread passed it by. `None` where none had.
 fn first_with_fate(statements: &[Statement], fate: Fate) -> Option<Statement> {
     let mut statements = statements.iter().copied();
     statements.find(|statement| statement.fate == fate)
 }
 
-// The place of the step that carried a statement out; `None` where none did.
+// The place of the first step that carried a statement out; `None` where none did.
 fn step_of(statement: &Statement) -> Option<usize> {
     match statement.fate {
         Fate::Taken(at) => Some(at),
@@ -188,13 +191,13 @@ fn step_of(statement: &Statement) -> Option<usize> {
     }
 }
 
-// Whether an event, as a test or a `leave`, jumps over an instruction of its thread.
+// Whether an event is a jump over this instruction of its thread; false where it is no jump.
 fn jumps_over(event: &Event, instruction: usize) -> bool {
-    let last = event.instruction.saturating_add(event.jump());
+    let last = event.instruction.saturating_add(event.jump_length());
     event.instruction < instruction && instruction <= last
 }
 
-// Whether an event is the test of an `if` and was true, and an instruction is in the block of it.
+// Whether an event is the test of an `if`, was true, and has this later instruction in its block.
 fn is_guard_of(test: &Event, instruction: usize) -> bool {
     match test.statement {
         Instruction::SkipIfZero(_, length) => {

@@ -47,11 +47,15 @@ pub struct Text {
 }
 
 impl Render for Text {
-    // The explanation as text, or the sentence that a search found no bad schedule.
+    // The explanation as text, or the sentence that a search found no bad schedule. The text also
+    // says where a search showed that no bad schedule has fewer preemptions.
     fn render(&self, alloc: Global, answer: &Explained, source: &Source<'_>, file: &str) -> Output {
         let (explanation, is_fewest) = match answer {
             Explained::Asked(explanation) => (explanation, false),
-            Explained::Found(report, Some(explanation)) => (explanation, is_fewest(report)),
+            Explained::Found(report, Some(explanation)) => (
+                explanation,
+                has_fewest_preemptions(report),
+            ),
             Explained::Found(report, None) => {
                 return Ok(no_schedule_text(alloc, file, report)?.into_bytes());
             }
@@ -65,12 +69,13 @@ impl Render for Text {
     }
 }
 
-/// The explanation of the schedule that is asked for, in the program that `text` spells, as far as
-/// the schedule runs; or of the bad schedule that a search finds.
+/// Explains, in the format of `renderer`, the schedule that is asked for, as far as it runs in the
+/// program that `text` spells; or, where none is asked for, the bad schedule that a search finds.
+/// Where the search finds none, says so. Answers what is printed, and the status.
 ///
 /// # Errors
 ///
-/// What is wrong first: with the text, with the program that the text spells, or with the
+/// The first that is wrong: with the text, with the program that the text spells, or with the
 /// schedule's text; `Memory` where memory runs out.
 pub fn explain_text<R: Threads + Wait + Sync + Eprint, T: Render>(
     rt: &R,
@@ -84,7 +89,7 @@ pub fn explain_text<R: Threads + Wait + Sync + Eprint, T: Render>(
     let tree = parse(alloc, text)?;
     let program = Arc::new(alloc, lower(alloc, &tree)?)?;
     let map = SourceMap::new(alloc, &tree)?;
-    let explained = Explained::new(rt, alloc, &program, request)?;
+    let explained = Explained::of_request(rt, alloc, &program, request)?;
     let source = Source {
         file: request.file.as_bytes(),
         text,
@@ -112,7 +117,7 @@ impl Explained {
     // Explains the schedule that a request asks for, or, where it asks for none, searches the
     // program and explains the schedule that the search finds, if any. An error where the
     // schedule's text is refused, or memory runs out.
-    fn new<R: Threads + Wait + Sync + Eprint>(
+    fn of_request<R: Threads + Wait + Sync + Eprint>(
         rt: &R,
         alloc: Global,
         program: &Arc<Program>,
@@ -122,7 +127,7 @@ impl Explained {
         ensures fault { IfErr result (IsFaultOf request.now.schedule) }
     {
         match &request.schedule {
-            Some(text) => Ok(Explained::Asked(explain_spelled(alloc, program, text.as_bytes())?)),
+            Some(text) => Ok(Explained::Asked(explain_asked(alloc, program, text.as_bytes())?)),
             None => {
                 let (report, explanation) = search_and_explain(rt, alloc, program, request.search)?;
                 Ok(Explained::Found(report, explanation))
@@ -130,8 +135,8 @@ impl Explained {
         }
     }
 
-    // The status that the program ends with: that of the explanation, or, where the search found
-    // nothing to explain, that of the search.
+    // The status that `ctxbound` ends with: that of the explanation, or, where the search found no
+    // schedule to explain, that of the search's verdict.
     fn status(&self) -> u8
         ensures { result ≡ told_status self.now }
     {
@@ -144,9 +149,9 @@ impl Explained {
     }
 }
 
-// The explanation of the schedule that the text `schedule` spells. An error where it spells none,
-// or memory runs out.
-fn explain_spelled(alloc: Global, program: &Program, schedule: &[u8]) -> Result<Explanation, Fault>
+// The explanation of the schedule that is asked for by the bytes `schedule`. An error where these
+// spell no schedule, or memory runs out.
+fn explain_asked(alloc: Global, program: &Program, schedule: &[u8]) -> Result<Explanation, Fault>
     ensures asked { IfOk result (IsAsked program.now schedule.now) }
     ensures fault { IfErr result (IsScheduleFault schedule.now) }
 {
@@ -185,7 +190,7 @@ fn explain_reported(
     }
 }
 
-// The status that the program ends with after an explanation: that of a replay of the schedule, or
+// The status that `ctxbound` ends with after an explanation: that of a replay of the schedule, or
 // that of a refusal where a step of the schedule can't be taken.
 fn explained_status(explanation: &Explanation) -> u8
     ensures { result ≡ explained_status explanation.now.refused explanation.now.kind }
@@ -196,14 +201,14 @@ fn explained_status(explanation: &Explanation) -> u8
     }
 }
 
-/// Whether the report of a search names a bad schedule and shows that none with fewer preemptions
-/// is bad: the search had a bound, and wasn't cut short.
-pub fn is_fewest(search: &Report) -> bool {
-    matches!(&search.verdict, Verdict::Bad { .. }) && search.bound.is_some()
+/// Whether a report names a bad schedule and shows that none with fewer preemptions is bad: the
+/// search had a bound, found one and wasn't cut short.
+pub fn has_fewest_preemptions(report: &Report) -> bool {
+    matches!(&report.verdict, Verdict::Bad { .. }) && report.bound.is_some()
 }
 
-/// The sentence for the user where a search of the program in this file found no bad schedule, with
-/// how far the search went.
+/// What the user is told where a search of the program in this file found no bad schedule: how far
+/// the search went, and, where that was only up to a bound, that this is no proof.
 ///
 /// # Errors
 ///

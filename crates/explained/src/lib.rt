@@ -11,6 +11,6 @@ mod explained;
 mod serving;
 
 pub use crate::explained::{
-    Explained, Output, Render, Text, explain_text, is_fewest, no_schedule_text,
+    Explained, Output, Render, Text, explain_text, has_fewest_preemptions, no_schedule_text,
 };
 pub use crate::serving::serve_explain;

@@ -9,8 +9,8 @@ use std::sync::Wait;
 use std::thread::Threads;
 
 /// Explains a schedule of the guest program in a file, the one that the request has or that a
-/// search finds. Writes the explanation in the format of `renderer` to `out`, or why there is none
-/// to `err`, with the name of a device that failed. Answers the status that the program ends with.
+/// search finds. Writes the explanation, or that the search finds none, in the format of `renderer`
+/// to `out`; or to `err` the line that says what is wrong. Answers the status to exit with.
 pub fn serve_explain<H, T: Render, W: Write, E: Write>(
     rt: &H,
     request: &ExplainRequest,

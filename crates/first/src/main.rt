@@ -10,19 +10,19 @@ use explained::{Text, serve_explain};
 use std::io::Write;
 use std::process::ExitCode;
 
-// What is said where the command words are none of the three commands.
+// What is said where the command line is none of the three commands.
 const USAGE: &str = "usage: first explain FILE [SCHEDULE], first explore FILE --trace, or first \
                      replay FILE SCHEDULE";
 
-// What command words ask for: to replay or search a file's guest program, or to explain a schedule.
+// What a command line asks for: to replay or search a guest program, or to explain a schedule.
 #[derive(Drop)]
 enum Request {
     Guest { file: String, request: GuestRequest },
     Explain(ExplainRequest),
 }
 
-// What the program's command words ask for; `None` where they are none of the three commands, or
-// can't be read.
+// What the command line asks for: `explain`, `explore` with `--trace`, or `replay`. `None` where it
+// is none of these commands with its words, or can't be read.
 fn read_request(rt: &HostRuntime) -> Option<Request> {
     let words: Vec<String> = std::env::args(rt).ok()?.collect(rt.alloc()).ok()?;
     let file = words.get(2)?.as_str().to_string(rt.alloc()).ok()?;
@@ -50,7 +50,7 @@ fn read_request(rt: &HostRuntime) -> Option<Request> {
     Some(Request::Guest { file, request })
 }
 
-// Reads the command words, does what they ask for, and ends the program with the status.
+// Does what the command line asks for, or prints `USAGE`, and ends the program with the status.
 fn main(rt: HostRuntime) -> ExitCode {
     let mut out = rt.stdout();
     let mut err = rt.stderr();

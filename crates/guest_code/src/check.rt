@@ -1,4 +1,4 @@
-//! Which refusal a tree gets.
+//! Whether a tree has a fault, and which one is the first.
 
 ghost use Rattle.std.specs.Prelude.{◌≡◌, ◌≤◌, [], ◌∷◌, ◌++◌, length, map, IfOk, Ok, Err, cond, true, false};
 ghost use Rattle.guest_syntax.specs.Tree.{name_view, operand_view, expr_view, stmt_view, block_view, thread_view, tree_view};
@@ -18,17 +18,16 @@ use guest_syntax::place::Pos;
 use guest_syntax::tree::{Declaration, Expr, Name, Operand, Placed, Statement, Thread, Tree};
 use std::alloc::Global;
 
-/// Where statements are checked: in which tree, whose declarations are looked up, and whether
-/// `inside` a `repeat`.
+/// What a check of statements needs: their tree, and whether they are `inside` a `repeat`.
 #[derive(Clone, Copy)]
 pub struct Scope<'a> {
     pub alloc: Global,
     pub tree: &'a Tree,
-    pub inside: bool,
+    pub in_repeat: bool,
 }
 
-// The kind that a name is declared as by the first of `declarations` that declares it, if any.
-fn kind_declared(declarations: &[Declaration], name: &[u8]) -> Option<NameKind>
+// What a name is declared as by the first of `declarations` that has it; `None` if none has it.
+fn kind_in_declarations(declarations: &[Declaration], name: &[u8]) -> Option<NameKind>
     ensures { result ≡ kind_in (declared_in declarations.now) name.now }
 {
     for declaration in declarations {
@@ -39,8 +38,8 @@ fn kind_declared(declarations: &[Declaration], name: &[u8]) -> Option<NameKind>
     None
 }
 
-// `NameKind::Thread` where one of `threads` has the name `name`, else none.
-fn kind_of_thread(threads: &[Thread], name: &[u8]) -> Option<NameKind>
+// The kind that a name is declared as by `threads`: `Thread` where one has the name, else `None`.
+fn kind_in_threads(threads: &[Thread], name: &[u8]) -> Option<NameKind>
     ensures { result ≡ kind_in (threads_uses (map thread_view threads.now)) name.now }
 {
     for thread in threads {
@@ -51,32 +50,32 @@ fn kind_of_thread(threads: &[Thread], name: &[u8]) -> Option<NameKind>
     None
 }
 
-// The kind that a name is declared as by `declarations`, else by `threads`, if by any.
+// The kind that a name is declared as by `declarations`, else by `threads`; `None` if by neither.
 #[tactic(auto, using(crate::proofs::NameLookup::kind_stays, crate::proofs::NameLookup::kind_after))]
 fn kind_among(declarations: &[Declaration], threads: &[Thread], name: &[u8]) -> Option<NameKind>
     ensures { result ≡ kind_in (uses_of declarations.now threads.now) name.now }
 {
-    match kind_declared(declarations, name) {
+    match kind_in_declarations(declarations, name) {
         Some(kind) => Some(kind),
-        None => kind_of_thread(threads, name),
+        None => kind_in_threads(threads, name),
     }
 }
 
-// The kind that a name is declared as anywhere in a tree, if anywhere.
+// The kind that a name is declared as anywhere in a tree; `None` where nothing declares it.
 #[tactic(auto, unfolding(crate::specs::inner::Walk::all_uses))]
-fn kind_in(tree: &Tree, name: &Name) -> Option<NameKind>
+fn kind_in_tree(tree: &Tree, name: &Name) -> Option<NameKind>
     ensures { result ≡ kind_in (all_uses tree.now) name.now.text.items }
 {
     kind_among(tree.declarations(), tree.threads(), &name.text)
 }
 
 // How many of `declarations` declare an object of a kind.
-fn how_many(kind: NameKind, declarations: &[Declaration]) -> usize
+fn count_of_kind(kind: NameKind, declarations: &[Declaration]) -> usize
     ensures { result ≡ how_many kind (uses_of declarations.now []) }
 {
     let mut count = 0;
     for declaration in declarations {
-        if kind_of(declaration.object).is(kind) {
+        if kind_of(declaration.object).is_same(kind) {
             count += 1;
         }
     }
@@ -95,19 +94,19 @@ fn contains_name(locals: &[Vec<u8>], name: &[u8]) -> bool
     false
 }
 
-// Refuses a name that isn't declared as an object of `kind`.
+// Refuses a name that is declared nowhere, or as something else than an object of `kind`.
 fn check_object(tree: &Tree, kind: NameKind, name: &Name) -> Result<(), CheckError>
     ensures { result ≡ passed (refusal (all_uses tree.now) []
         (object kind (name_view name.now))) tt }
 {
-    match kind_in(tree, name) {
+    match kind_in_tree(tree, name) {
         None => Err(CheckError::Unknown(name.at)),
-        Some(found) if found.is(kind) => Ok(()),
+        Some(found) if found.is_same(kind) => Ok(()),
         Some(_) => Err(CheckError::WrongKind(name.at)),
     }
 }
 
-// Refuses a `leave` with no `repeat` round it.
+// Refuses the `leave` at `at` unless it is `inside` a `repeat`.
 fn check_leave(inside: bool, at: Pos) -> Result<(), CheckError>
     ensures { result ≡ cond inside (Ok tt) (Err (CheckError.LeaveOutside at)) }
 {
@@ -119,11 +118,11 @@ fn check_leave(inside: bool, at: Pos) -> Result<(), CheckError>
 }
 
 // Refuses a name that is declared, or would be one local too many; else adds it to `locals` if new.
-fn check_local(scope: Scope<'_>, locals: &mut Vec<Vec<u8>>, name: &Name) -> Result<(), CheckError>
+fn insert_local(scope: Scope<'_>, locals: &mut Vec<Vec<u8>>, name: &Name) -> Result<(), CheckError>
     ensures { Meets result scope.entry locals.old locals.new
         (used.local (name_view name.now) ∷ []) }
 {
-    if kind_in(scope.tree, name).is_some() {
+    if kind_in_tree(scope.tree, name).is_some() {
         return Err(CheckError::WrongKind(name.at));
     }
     if contains_name(locals, &name.text) {
@@ -136,7 +135,7 @@ fn check_local(scope: Scope<'_>, locals: &mut Vec<Vec<u8>>, name: &Name) -> Resu
     Ok(())
 }
 
-// Checks the local that an operand names, if it names one.
+// Checks the local that an operand names, if any, and adds it to `locals` if it is new.
 fn check_operand(
     scope: Scope<'_>,
     locals: &mut Vec<Vec<u8>>,
@@ -146,12 +145,12 @@ fn check_operand(
         (operand_uses (operand_view operand.now)) }
 {
     match operand {
-        Operand::Local(name) => check_local(scope, locals, name),
+        Operand::Local(name) => insert_local(scope, locals, name),
         Operand::Literal(_) => Ok(()),
     }
 }
 
-// Checks the locals that two operands name, that of `first` first.
+// Checks the locals that two operands name, that of `first` first; adds new ones to `locals`.
 fn check_operands(
     scope: Scope<'_>,
     locals: &mut Vec<Vec<u8>>,
@@ -165,7 +164,7 @@ fn check_operands(
     check_operand(scope, locals, second)
 }
 
-// Checks the names that are used in an expression.
+// Checks the locals that are used in an expression, and adds new ones to `locals`.
 fn check_expr(scope: Scope<'_>, locals: &mut Vec<Vec<u8>>, expr: &Expr) -> Result<(), CheckError>
     ensures { Meets result scope.entry locals.old locals.new (expr_uses (expr_view expr.now)) }
 {
@@ -175,8 +174,8 @@ fn check_expr(scope: Scope<'_>, locals: &mut Vec<Vec<u8>>, expr: &Expr) -> Resul
     }
 }
 
-// Checks the local and the variable that are used in a `load`, an `add` or a `cas`.
-fn check_load(
+// Checks a read's (`load`, `add` or `cas`) local and variable; adds a new local to `locals`.
+fn check_read(
     scope: Scope<'_>,
     locals: &mut Vec<Vec<u8>>,
     local: &Name,
@@ -185,11 +184,11 @@ fn check_load(
     ensures { Meets result scope.entry locals.old locals.new
         (used.local (name_view local.now) ∷ object NameKind.Variable (name_view variable.now) ∷ []) }
 {
-    check_local(scope, locals, local)?;
+    insert_local(scope, locals, local)?;
     check_object(scope.tree, NameKind::Variable, variable)
 }
 
-// Checks the names that are used in a `store`.
+// Checks the variable of a `store`, then its value's local, if any; adds a new one to `locals`.
 fn check_store(
     scope: Scope<'_>,
     locals: &mut Vec<Vec<u8>>,
@@ -203,7 +202,7 @@ fn check_store(
     check_operand(scope, locals, value)
 }
 
-// Checks the names that are used in an `add`.
+// Checks an `add`'s local, variable and value, in this order; adds new locals to `locals`.
 fn check_add(
     scope: Scope<'_>,
     locals: &mut Vec<Vec<u8>>,
@@ -215,11 +214,11 @@ fn check_add(
         (used.local (name_view local.now) ∷ object NameKind.Variable (name_view variable.now) ∷
         operand_uses (operand_view value.now)) }
 {
-    check_load(scope, locals, local, variable)?;
+    check_read(scope, locals, local, variable)?;
     check_operand(scope, locals, value)
 }
 
-// Checks the names that are used in a `set`.
+// Checks the local of a `set`, then those in its expression; adds new ones to `locals`.
 fn check_set(
     scope: Scope<'_>,
     locals: &mut Vec<Vec<u8>>,
@@ -229,11 +228,11 @@ fn check_set(
     ensures { Meets result scope.entry locals.old locals.new
         (used.local (name_view local.now) ∷ expr_uses (expr_view value.now)) }
 {
-    check_local(scope, locals, local)?;
+    insert_local(scope, locals, local)?;
     check_expr(scope, locals, value)
 }
 
-// Checks the names that are used in a `wait`, which has no local.
+// Refuses a `wait` unless its first name is a condition's and its second one is a mutex's.
 fn check_wait(tree: &Tree, condition: &Name, mutex: &Name) -> Result<(), CheckError>
     ensures { result ≡ passed (first (all_uses tree.now) []
         (object NameKind.Condition (name_view condition.now) ∷ object NameKind.Mutex (name_view mutex.now)
@@ -243,7 +242,7 @@ fn check_wait(tree: &Tree, condition: &Name, mutex: &Name) -> Result<(), CheckEr
     check_object(tree, NameKind::Mutex, mutex)
 }
 
-// Checks the names that are used in a statement.
+// Checks a statement's names, and that a `leave` is in a `repeat`; adds new locals to `locals`.
 #[cycle(body)]
 fn check_statement(
     scope: Scope<'_>,
@@ -251,11 +250,11 @@ fn check_statement(
     placed: &Placed,
 ) -> Result<(), CheckError>
     ensures { Meets result scope.entry locals.old locals.new
-        (stmt_uses scope.entry.inside placed.now.at (stmt_view placed.now.statement)) }
+        (stmt_uses scope.entry.in_repeat placed.now.at (stmt_view placed.now.statement)) }
 {
     let tree = scope.tree;
     match &placed.statement {
-        Statement::Load { local, variable } => check_load(scope, locals, local, variable),
+        Statement::Load { local, variable } => check_read(scope, locals, local, variable),
         Statement::Store { variable, value } => check_store(scope, locals, variable, value),
         Statement::Add {
             local,
@@ -268,14 +267,12 @@ fn check_statement(
             expected,
             new,
         } => {
-            check_load(scope, locals, local, variable)?;
+            check_read(scope, locals, local, variable)?;
             check_operands(scope, locals, expected, new)
         }
-        Statement::Lock(name) | Statement::Unlock(name) => check_object(
-            tree,
-            NameKind::Mutex,
-            name,
-        ),
+        Statement::Lock(name) | Statement::Unlock(name) => {
+            check_object(tree, NameKind::Mutex, name)
+        }
         Statement::Wait { condition, mutex } => check_wait(tree, condition, mutex),
         Statement::Signal(name) | Statement::Broadcast(name) => {
             check_object(tree, NameKind::Condition, name)
@@ -291,14 +288,14 @@ fn check_statement(
             otherwise,
         } => match otherwise {
             None => check_if(scope, locals, test, then),
-            Some(other) => check_choice(scope, locals, test, then, other),
+            Some(other) => check_if_else(scope, locals, test, then, other),
         },
         Statement::Repeat { body, .. } => check_repeat(scope, locals, body),
-        Statement::Leave => check_leave(scope.inside, placed.at),
+        Statement::Leave => check_leave(scope.in_repeat, placed.at),
     }
 }
 
-// Checks the names that are used in an `if` with no `else`.
+// Checks the test and the block of an `if` with no `else`, and adds new locals to `locals`.
 #[cycle(body)]
 #[tactic(auto, using(crate::proofs::CheckIsFault::walk_goes, crate::proofs::CheckIsFault::walk_stops))]
 fn check_if(
@@ -308,16 +305,16 @@ fn check_if(
     then: &[Placed],
 ) -> Result<(), CheckError>
     ensures { Meets result scope.entry locals.old locals.new
-        (expr_uses (expr_view test.now) ++ block_uses scope.entry.inside (block_view then.now)) }
+        (expr_uses (expr_view test.now) ++ block_uses scope.entry.in_repeat (block_view then.now)) }
 {
     check_expr(scope, locals, test)?;
     check_block(scope, locals, then)
 }
 
-// Checks the names that are used in an `if` with an `else`.
+// Checks the test and both blocks of an `if` with an `else`, and adds new locals to `locals`.
 #[cycle(body)]
 #[tactic(auto, using(crate::proofs::CheckIsFault::walk_goes, crate::proofs::CheckIsFault::walk_stops))]
-fn check_choice(
+fn check_if_else(
     scope: Scope<'_>,
     locals: &mut Vec<Vec<u8>>,
     test: &Expr,
@@ -325,15 +322,15 @@ fn check_choice(
     other: &[Placed],
 ) -> Result<(), CheckError>
     ensures { Meets result scope.entry locals.old locals.new
-        (expr_uses (expr_view test.now) ++ (block_uses scope.entry.inside (block_view then.now)
-        ++ block_uses scope.entry.inside (block_view other.now))) }
+        (expr_uses (expr_view test.now) ++ (block_uses scope.entry.in_repeat (block_view then.now)
+        ++ block_uses scope.entry.in_repeat (block_view other.now))) }
 {
     check_expr(scope, locals, test)?;
     check_block(scope, locals, then)?;
     check_block(scope, locals, other)
 }
 
-// Checks the names that are used in the body of a `repeat`.
+// Checks the body of a `repeat`, where a `leave` is allowed, and adds new locals to `locals`.
 #[cycle(body)]
 fn check_repeat(
     scope: Scope<'_>,
@@ -346,12 +343,12 @@ fn check_repeat(
     let inside = Scope {
         alloc: scope.alloc,
         tree: scope.tree,
-        inside: true,
+        in_repeat: true,
     };
     check_block(inside, locals, body)
 }
 
-// Checks the names that are used in a block.
+// Checks the statements of a block in their order, and adds new locals to `locals`.
 #[cycle(body)]
 fn check_block(
     scope: Scope<'_>,
@@ -359,7 +356,7 @@ fn check_block(
     block: &[Placed],
 ) -> Result<(), CheckError>
     ensures { Meets result scope.entry locals.old locals.new
-        (block_uses scope.entry.inside (block_view block.now)) }
+        (block_uses scope.entry.in_repeat (block_view block.now)) }
 {
     for placed in block {
         check_statement(scope, locals, placed)?;
@@ -367,8 +364,9 @@ fn check_block(
     Ok(())
 }
 
-// Refuses a new name that `declarations` or `threads` have, or where `count` is the kind's limit.
-fn check_new(
+// Refuses a name that `declarations` or `threads` have, or that passes the limit of its `kind`, of
+// which `count` are declared before it.
+fn check_new_name(
     declarations: &[Declaration],
     threads: &[Thread],
     kind: NameKind,
@@ -387,34 +385,36 @@ fn check_new(
     Ok(())
 }
 
-// Refuses the first of a tree's `declarations` whose name is declared before, or is one too many.
+// Refuses the first of `declarations`, which are those of `tree`, that has an earlier one's name or
+// passes its kind's limit. The contract alone needs `tree`.
 fn check_declarations(tree: &Tree, declarations: &[Declaration]) -> Result<(), CheckError>
     ensures { result ≡ passed (first (all_uses tree.now) [] (declared_in declarations.now)) tt }
 {
     for (i, declaration) in declarations.iter().enumerate() {
         let kind = kind_of(declaration.object);
         let before = &declarations[..i];
-        check_new(before, &[], kind, how_many(kind, before), &declaration.name)?;
+        let count = count_of_kind(kind, before);
+        check_new_name(before, &[], kind, count, &declaration.name)?;
     }
     Ok(())
 }
 
-// Checks the names in a thread, and answers the thread's locals in the order of their first uses.
-fn check_body(alloc: Global, tree: &Tree, thread: &Thread) -> Result<Vec<Vec<u8>>, CheckError>
+// Checks a thread's names and each `leave` in it. Answers its locals in the order of first use.
+fn checked_locals(alloc: Global, tree: &Tree, thread: &Thread) -> Result<Vec<Vec<u8>>, CheckError>
     ensures { Finds result tree.now (block_uses false (block_view thread.now.body.items)) }
 {
     let scope = Scope {
         alloc,
         tree,
-        inside: false,
+        in_repeat: false,
     };
     let mut locals = Vec::new(alloc);
     check_block(scope, &mut locals, &thread.body)?;
     Ok(locals)
 }
 
-// The locals of each thread in the order of first use, or the first fault of a name.
-fn check_names(alloc: Global, tree: &Tree) -> Result<Vec<Vec<Vec<u8>>>, CheckError>
+// Checks all names and each `leave`. Answers the locals of each thread in the order of first use.
+fn check_and_collect_locals(alloc: Global, tree: &Tree) -> Result<Vec<Vec<Vec<u8>>>, CheckError>
     ensures gives { Answers result (first_of_names (all_uses tree.now)) }
     ensures locals { IfOk result (λ v. map locals_view v.items ≡ tree_locals (tree_view tree.now)) }
     ensures few { IfOk result (λ v. length (tree_view tree.now).threads ≤ THREADS) }
@@ -424,24 +424,25 @@ fn check_names(alloc: Global, tree: &Tree) -> Result<Vec<Vec<Vec<u8>>>, CheckErr
     check_declarations(tree, declarations)?;
     let mut all = Vec::new(alloc);
     for (i, thread) in threads.iter().enumerate() {
-        check_new(
+        check_new_name(
             declarations,
             &threads[..i],
             NameKind::Thread,
             i,
             &thread.name,
         )?;
-        all.push(check_body(alloc, tree, thread)?)?;
+        all.push(checked_locals(alloc, tree, thread)?)?;
     }
     Ok(all)
 }
 
-/// The locals of each thread in the order of first use, or the tree's first fault or `OutOfMemory`.
+/// Each thread's locals in the order of first use, or the first fault: of a name or a `leave`, else
+/// `NoThreads`, else `CodeTooLong`. `OutOfMemory` where memory runs out.
 pub fn check(alloc: Global, tree: &Tree) -> Result<Vec<Vec<Vec<u8>>>, CheckError>
     ensures gives { Answers result (fault (tree_view tree.now)) }
     ensures locals { IfOk result (λ v. map locals_view v.items ≡ tree_locals (tree_view tree.now)) }
 {
-    let all = check_names(alloc, tree)?;
+    let all = check_and_collect_locals(alloc, tree)?;
     let threads = tree.threads();
     if threads.len() == 0 {
         return Err(CheckError::NoThreads);

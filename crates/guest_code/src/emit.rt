@@ -1,5 +1,4 @@
-//! The code of statements, with the distance to the exit: how many instructions come after it, to
-//! the end of the last copy of the nearest `repeat` round it.
+//! The code of statements and blocks.
 
 ghost use Rattle.std.specs.Prelude.{◌≡◌, ◌+◌, ◌*◌, ◌<◌, ◌≤◌, ◌^◌, [], ◌∷◌};
 ghost use Rattle.guest_syntax.specs.Tree.{if_then, if_else, name_view, operand_view, expr_view, stmt_view, block_view};
@@ -15,11 +14,12 @@ use crate::program::Instruction;
 use guest_syntax::tree::{Expr, Name, Operand, Placed, Statement};
 use std::alloc::AllocError;
 
-/// Where code is put: what names stand for there, and the distance to the exit of a `repeat`.
+/// Where code is put: what names stand for there, and how far a `leave` there has to skip.
 #[derive(Clone, Copy)]
 pub struct Context<'a> {
     pub names: Names<'a>,
-    /// How many instructions come after the code, to the end of the nearest `repeat`'s last copy.
+    /// How many instructions come after the code, up to the end of the last copy of the nearest
+    /// `repeat`; where there is no `repeat`, up to the end of the thread.
     pub distance_to_exit: usize,
 }
 
@@ -60,7 +60,7 @@ fn add(names: Names<'_>, local: &Name, variable: &Name, value: &Operand) -> Inst
     }
 }
 
-// The instruction that sets a variable to `new` where it is `expected`, and a local to 1 or else 0.
+// The compare-and-swap of a variable from `expected` to `new`: a local gets 1 if it hits, else 0.
 fn cas(
     names: Names<'_>,
     local: &Name,
@@ -113,7 +113,7 @@ fn push(code: &mut Vec<Instruction>, instruction: Instruction) -> Result<(), All
     Ok(())
 }
 
-// Adds the code of a statement, which has no more instructions than the limit.
+// Adds a statement's code, at most `INSTRUCTIONS` long; a `leave` skips to its `repeat`'s exit.
 #[cycle(emit)]
 fn emit_statement(
     code: &mut Vec<Instruction>,
@@ -154,14 +154,14 @@ fn emit_statement(
             otherwise,
         } => match otherwise {
             None => emit_if(code, context, test, then),
-            Some(other) => emit_choice(code, context, test, then, other),
+            Some(other) => emit_if_else(code, context, test, then, other),
         },
         Statement::Repeat { times, body } => emit_copies(code, names, body, *times),
         Statement::Leave => push(code, Instruction::Skip(context.distance_to_exit)),
     }
 }
 
-// Adds the code of an `if` with no `else`.
+// Adds the code of an `if` with no `else`: a skip over the block if the test is 0, and the block.
 #[cycle(emit)]
 fn emit_if(
     code: &mut Vec<Instruction>,
@@ -182,9 +182,9 @@ fn emit_if(
     emit_block(code, context, then)
 }
 
-// Adds the code of an `if` with an `else`.
+// Adds the code of an `if` with an `else`: test, first block, a skip over the second, the second.
 #[cycle(emit)]
-fn emit_choice(
+fn emit_if_else(
     code: &mut Vec<Instruction>,
     context: Context<'_>,
     test: &Expr,
@@ -213,7 +213,8 @@ fn emit_choice(
     emit_block(code, context, other)
 }
 
-// Adds the code of `times` copies of a block. Copies of an empty block cost no time.
+// Adds `times` copies of a block's code; a `leave` in one skips the later ones. Returns at once if
+// that is no code: blocks without any, nested in `repeat`s, would else take too long.
 #[cycle(emit)]
 fn emit_copies(
     code: &mut Vec<Instruction>,
@@ -240,7 +241,7 @@ fn emit_copies(
     Ok(())
 }
 
-/// Adds the code of a block, which has no more instructions than the limit.
+/// Adds the code of a block, which has at most `INSTRUCTIONS` instructions.
 #[cycle(emit)]
 pub fn emit_block(
     code: &mut Vec<Instruction>,

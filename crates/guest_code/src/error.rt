@@ -8,8 +8,7 @@ use std::alloc::{AllocError, AllocFailed};
 use std::fmt;
 use thiserror::Error;
 
-/// What is wrong with a tree, or that memory ran out. Places are those of names, and of the word
-/// `leave`. Printed as in a report's line, after `ctxbound: `.
+/// What is wrong with a tree, and the place of the name or the `leave`; or that memory ran out.
 #[derive(Clone, Copy, Debug, PartialEq, Eq, Error)]
 pub enum CheckError {
     /// The name is declared already. Objects and threads share one name space.
@@ -30,13 +29,13 @@ pub enum CheckError {
     OutOfMemory,
 }
 
-/// What the user is told: the number and the name of the refusal, and its place or its thread.
 impl fmt::Display for CheckError {
     ghost use Rattle.std.specs.Prelude.{Some};
     ghost use Rattle.guest_code.specs.ErrorTexts.{check_error_text};
 
     ghost output = { λ e. Some (check_error_text e) };
 
+    /// What the user is told, as `check C2 Unknown at 1:3`; `memory` where memory ran out.
     fn fmt<W: fmt::Write>(&self, f: &mut fmt::Formatter<W>) -> fmt::Result {
         match self {
             CheckError::Duplicate(at) => write!(f, "check C1 Duplicate at {at}"),
@@ -56,6 +55,7 @@ impl fmt::Display for CheckError {
 impl From<AllocError> for CheckError {
     ghost from_gives = { λ _ e. e ≡ OutOfMemory };
 
+    /// Memory that ran out is told by [`CheckError::OutOfMemory`].
     fn from(_e: AllocError) -> CheckError {
         CheckError::OutOfMemory
     }
@@ -64,6 +64,7 @@ impl From<AllocError> for CheckError {
 impl<T: Drop> From<AllocFailed<T>> for CheckError {
     ghost from_gives = { λ _ e. e ≡ OutOfMemory };
 
+    /// Memory that ran out is told by [`CheckError::OutOfMemory`].
     fn from(_e: AllocFailed<T>) -> CheckError {
         CheckError::OutOfMemory
     }

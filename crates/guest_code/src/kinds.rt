@@ -17,7 +17,7 @@ pub enum NameKind {
     Thread,
 }
 
-/// The kind of an object.
+/// The kind of an object: what its name is declared as.
 pub fn kind_of(object: Object) -> NameKind
     ensures { result ≡ kind_of object }
 {
@@ -30,7 +30,7 @@ pub fn kind_of(object: Object) -> NameKind
 }
 
 impl NameKind {
-    /// How many of the kind a program may have.
+    /// The most names of this kind that a program may declare.
     pub fn limit(self) -> usize
         ensures { result ≡ limit_of self }
     {
@@ -43,8 +43,8 @@ impl NameKind {
         }
     }
 
-    /// Whether two kinds are the same.
-    pub fn is(self, other: NameKind) -> bool
+    /// Whether this kind is the same as the other one, as `==` has it.
+    pub fn is_same(self, other: NameKind) -> bool
         ensures { result ≡ same self other }
     {
         self == other

@@ -37,7 +37,7 @@ pub fn places_are_in_their_threads()
     statements_are_in_their_threads();
 }
 
-/// Each limit is the number that its clause gives; the greatest count is that of a text.
+/// Each limit is the number that its clause gives, and `COUNT` is the limit of counts in a text.
 pub fn limits_are()
     ensures threads { THREADS ≡ 16 }
     ensures variables { VARIABLES ≡ 16 }

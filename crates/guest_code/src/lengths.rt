@@ -10,7 +10,7 @@ use crate::error::CheckError;
 use crate::limits::{INSTRUCTIONS, THREADS};
 use guest_syntax::tree::{Placed, Statement, Thread};
 
-/// How many instructions a statement has; the limit plus 1 for each number above the limit.
+/// How many instructions a statement has; `INSTRUCTIONS + 1` where it has more than `INSTRUCTIONS`.
 #[cycle(sizes)]
 pub fn size_of_statement(statement: &Statement) -> usize
     ensures { result ≡ min (size (stmt_view statement.now)) (INSTRUCTIONS + 1) }
@@ -31,7 +31,7 @@ pub fn size_of_statement(statement: &Statement) -> usize
     }
 }
 
-/// How many instructions a block has; the limit plus 1 for each number above the limit.
+/// How many instructions a block has; `INSTRUCTIONS + 1` where it has more than `INSTRUCTIONS`.
 #[cycle(sizes)]
 pub fn size_of_block(block: &[Placed]) -> usize
     ensures { result ≡ min (block_size (block_view block.now)) (INSTRUCTIONS + 1) }
@@ -43,7 +43,7 @@ pub fn size_of_block(block: &[Placed]) -> usize
     total
 }
 
-/// Refuses the first thread that has too many instructions.
+/// Refuses the first thread, if any, that has more than `INSTRUCTIONS` instructions.
 pub fn check_lengths(threads: &[Thread]) -> Result<(), CheckError>
     requires { length threads.now ≤ THREADS }
     ensures { result ≡ passed (too_long 0 (map thread_view threads.now)) tt }

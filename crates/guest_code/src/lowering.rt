@@ -17,8 +17,8 @@ use crate::program::{Program, Semaphore, Thread, Variable};
 use guest_syntax::tree::{Declaration, Name, Object, Thread as ThreadTree, Tree};
 use std::alloc::{AllocError, Global};
 
-// A variable with a copy of a name.
-fn variable(alloc: Global, name: &Name, opening: i64) -> Result<Variable, AllocError>
+// A program's variable: a copy of its name, and `opening`, its value before the first step.
+fn lower_variable(alloc: Global, name: &Name, opening: i64) -> Result<Variable, AllocError>
     ensures { IfOk result
         (λ v. variable_view v ≡ record { name = name.now.text.items; opening = opening }) }
 {
@@ -26,8 +26,8 @@ fn variable(alloc: Global, name: &Name, opening: i64) -> Result<Variable, AllocE
     Ok(Variable { name, opening })
 }
 
-// A semaphore with a copy of a name.
-fn semaphore(alloc: Global, name: &Name, count: u16) -> Result<Semaphore, AllocError>
+// A program's semaphore: a copy of its name, and `count`, its count before the first step.
+fn lower_semaphore(alloc: Global, name: &Name, count: u16) -> Result<Semaphore, AllocError>
     ensures same { IfOk result
         (λ s. semaphore_view s ≡ record { name = name.now.text.items; count = count }) }
     ensures few { count ≤ COUNT }
@@ -36,20 +36,20 @@ fn semaphore(alloc: Global, name: &Name, count: u16) -> Result<Semaphore, AllocE
     Ok(Semaphore { name, count })
 }
 
-// The variables among these declarations.
+// A program's variables: those that a tree's declarations declare, in their order.
 fn lower_variables(alloc: Global, declarations: &[Declaration]) -> Result<Vec<Variable>, AllocError>
     ensures { IfOk result (λ v. variables_view v ≡ objects_in variable_of declarations.now) }
 {
     let mut all = Vec::new(alloc);
     for declaration in declarations {
         if let Object::Variable(opening) = declaration.object {
-            all.push(variable(alloc, &declaration.name, opening)?)?;
+            all.push(lower_variable(alloc, &declaration.name, opening)?)?;
         }
     }
     Ok(all)
 }
 
-// The mutexes among these declarations.
+// The names of a program's mutexes: those that a tree's declarations declare, in their order.
 fn lower_mutexes(alloc: Global, declarations: &[Declaration]) -> Result<Vec<Vec<u8>>, AllocError>
     ensures { IfOk result (λ v. names_view v.items ≡ objects_in mutex_of declarations.now) }
 {
@@ -62,7 +62,7 @@ fn lower_mutexes(alloc: Global, declarations: &[Declaration]) -> Result<Vec<Vec<
     Ok(all)
 }
 
-// The conditions among these declarations.
+// The names of a program's conditions: those that a tree's declarations declare, in their order.
 fn lower_conditions(alloc: Global, declarations: &[Declaration]) -> Result<Vec<Vec<u8>>, AllocError>
     ensures { IfOk result (λ v. names_view v.items ≡ objects_in condition_of declarations.now) }
 {
@@ -75,7 +75,7 @@ fn lower_conditions(alloc: Global, declarations: &[Declaration]) -> Result<Vec<V
     Ok(all)
 }
 
-// The semaphores among these declarations.
+// A program's semaphores: those that a tree's declarations declare, in their order.
 fn lower_semaphores(
     alloc: Global,
     declarations: &[Declaration],
@@ -86,13 +86,13 @@ fn lower_semaphores(
     let mut all = Vec::new(alloc);
     for declaration in declarations {
         if let Object::Semaphore(count) = declaration.object {
-            all.push(semaphore(alloc, &declaration.name, count)?)?;
+            all.push(lower_semaphore(alloc, &declaration.name, count)?)?;
         }
     }
     Ok(all)
 }
 
-// A program's thread, from a thread of a tree that is not too long and whose locals are `locals`.
+// Lowers a tree's thread of at most `INSTRUCTIONS` instructions, whose locals are `locals`.
 fn lower_thread(
     alloc: Global,
     declarations: &[Declaration],
@@ -119,7 +119,7 @@ fn lower_thread(
     })
 }
 
-// A program's threads, from a tree's threads, none of them too long; `locals` has those of each.
+// Lowers a tree's threads, none of them too long; `locals[i]` are the locals of thread `i`.
 fn lower_threads(
     alloc: Global,
     declarations: &[Declaration],
@@ -142,8 +142,8 @@ fn lower_threads(
 ///
 /// # Errors
 ///
-/// The first fault in text order: of two at one name the one of the lower number; that there is no
-/// thread, and then too long a code, after all others; `OutOfMemory` where memory runs out.
+/// The first fault in text order, of two at one name the one that [`CheckError`] lists first; else
+/// `NoThreads`, if there is no thread; else `CodeTooLong`. `OutOfMemory` where memory runs out.
 pub fn lower(alloc: Global, tree: &Tree) -> Result<Program, CheckError>
     ensures { MatchResult result
         (λ p. (fault (tree_view tree.now) ≡ None) × (p ≡ code (tree_view tree.now)))

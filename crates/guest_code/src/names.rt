@@ -18,8 +18,8 @@ pub struct Names<'a> {
     pub locals: &'a [Vec<u8>],
 }
 
-// The number of the object of a name among the objects of `kind` that `declarations` declare.
-fn index_of_object(declarations: &[Declaration], kind: NameKind, name: &[u8]) -> usize
+// How many objects of `kind` are declared before the name: its number, if it is of that kind.
+fn objects_before(declarations: &[Declaration], kind: NameKind, name: &[u8]) -> usize
     ensures { result ≡ object_index kind (map declaration_view declarations.now) name.now }
 {
     let mut index = 0;
@@ -27,15 +27,15 @@ fn index_of_object(declarations: &[Declaration], kind: NameKind, name: &[u8]) ->
         if declaration.name.text.as_slice() == name {
             return index;
         }
-        if kind_of(declaration.object).is(kind) {
+        if kind_of(declaration.object).is_same(kind) {
             index += 1;
         }
     }
     index
 }
 
-// The number of the local of a name among `locals`.
-fn index_of_local(locals: &[Vec<u8>], name: &[u8]) -> usize
+// How many of `locals` come before the name: its number, if it is one of them.
+fn locals_before(locals: &[Vec<u8>], name: &[u8]) -> usize
     ensures { result ≡ local_index (names_view locals.now) name.now }
 {
     let mut index = 0;
@@ -49,42 +49,42 @@ fn index_of_local(locals: &[Vec<u8>], name: &[u8]) -> usize
 }
 
 impl Names<'_> {
-    /// The number of a variable.
+    /// The number of the variable of this name, counted from 0 in the order of declaration.
     pub fn variable(self, name: &Name) -> usize
         ensures { result ≡ variable_number (names_of self.entry) (name_view name.now) }
     {
-        index_of_object(self.declarations, NameKind::Variable, &name.text)
+        objects_before(self.declarations, NameKind::Variable, &name.text)
     }
 
-    /// The number of a mutex.
+    /// The number of the mutex of this name, counted from 0 in the order of declaration.
     pub fn mutex(self, name: &Name) -> usize
         ensures { result ≡ mutex_number (names_of self.entry) (name_view name.now) }
     {
-        index_of_object(self.declarations, NameKind::Mutex, &name.text)
+        objects_before(self.declarations, NameKind::Mutex, &name.text)
     }
 
-    /// The number of a condition.
+    /// The number of the condition of this name, counted from 0 in the order of declaration.
     pub fn condition(self, name: &Name) -> usize
         ensures { result ≡ condition_number (names_of self.entry) (name_view name.now) }
     {
-        index_of_object(self.declarations, NameKind::Condition, &name.text)
+        objects_before(self.declarations, NameKind::Condition, &name.text)
     }
 
-    /// The number of a semaphore.
+    /// The number of the semaphore of this name, counted from 0 in the order of declaration.
     pub fn semaphore(self, name: &Name) -> usize
         ensures { result ≡ semaphore_number (names_of self.entry) (name_view name.now) }
     {
-        index_of_object(self.declarations, NameKind::Semaphore, &name.text)
+        objects_before(self.declarations, NameKind::Semaphore, &name.text)
     }
 
-    /// The number of a local.
+    /// The number of the thread's local of this name, counted from 0 in the order of first use.
     pub fn local(self, name: &Name) -> usize
         ensures { result ≡ local_number (names_of self.entry) (name_view name.now) }
     {
-        index_of_local(self.locals, &name.text)
+        locals_before(self.locals, &name.text)
     }
 
-    /// An operand, with its local by number.
+    /// The operand as code has it: a local by its number, a literal as it is.
     pub fn value(self, operand: &Operand) -> Value
         ensures { result ≡ value_of (names_of self.entry) (operand_view operand.now) }
     {
@@ -94,7 +94,7 @@ impl Names<'_> {
         }
     }
 
-    /// An expression, with its locals by number.
+    /// The expression, with its locals by number instead of by name.
     pub fn expression(self, expr: &Expr) -> Expression
         ensures { result ≡ expression_of (names_of self.entry) (expr_view expr.now) }
     {

@@ -46,9 +46,8 @@ pub enum Instruction {
         variable: usize,
         value: Value,
     },
-    /// Where the variable's value is the expected one it becomes the new one and the local 1;
-    /// else the local becomes 0, and the variable keeps its value. All in one step, and the two
-    /// values are read before the local is written.
+    /// Where the variable's value is `expected` it becomes `new` and the local 1; else the local
+    /// becomes 0. All in one step; `expected` and `new` are read before the local is written.
     Cas {
         local: usize,
         variable: usize,
@@ -85,7 +84,7 @@ pub enum Instruction {
     Skip(usize),
 }
 
-/// A variable's name and opening value.
+/// A variable's name, and its value before the first step.
 #[derive(Debug, PartialEq, Eq, Drop)]
 pub struct Variable {
     /// The name, as the text spells it.
@@ -94,7 +93,7 @@ pub struct Variable {
     pub opening: i64,
 }
 
-/// A semaphore's name and opening count.
+/// A semaphore's name, and its count before the first step.
 #[derive(Debug, PartialEq, Eq, Drop)]
 pub struct Semaphore {
     /// The name, as the text spells it.
@@ -160,7 +159,7 @@ impl Eq for Program {
 }
 
 impl Program {
-    /// A program of these parts.
+    /// A program of these parts, each in the order of declaration.
     pub(crate) fn new(
         variables: Vec<Variable>,
         mutexes: Vec<Vec<u8>>,
@@ -180,7 +179,7 @@ impl Program {
         }
     }
 
-    /// Whether all that two programs hold is equal, names included.
+    /// Whether all that two programs hold is equal, names included, as `==` has it.
     pub fn is_same(&self, other: &Program) -> bool
         ensures { IsTrue result ↔ (self.now ≡ other.now) }
     {
@@ -234,16 +233,16 @@ impl Program {
         self.semaphores.len() as u8
     }
 
-    /// The opening value of a variable.
-    pub fn opening(&self, variable: usize) -> i64
+    /// The value of the variable of this number before the first step.
+    pub fn initial_value(&self, variable: usize) -> i64
         requires { variable < length self.now.variables }
         ensures { result ≡ (variable_at self.now variable).opening }
     {
         self.variables[variable].opening
     }
 
-    /// The opening count of a semaphore.
-    pub fn count(&self, semaphore: usize) -> u16
+    /// The count of the semaphore of this number before the first step.
+    pub fn initial_count(&self, semaphore: usize) -> u16
         requires { semaphore < length self.now.semaphores }
         ensures count { result ≡ (semaphore_at self.now semaphore).count }
         ensures few { result ≤ COUNT }
@@ -251,7 +250,7 @@ impl Program {
         self.semaphores[semaphore].count
     }
 
-    /// The code of a thread.
+    /// The code of the thread of this number.
     pub fn code(&self, thread: u8) -> &[Instruction]
         requires { thread < length self.now.threads }
         ensures code { result.now ≡ code_of self.now thread }
@@ -260,7 +259,7 @@ impl Program {
         self.threads[thread as usize].code.as_slice()
     }
 
-    /// How many locals a thread has, at most `LOCALS`.
+    /// How many locals the thread of this number has, at most `LOCALS`.
     pub fn locals(&self, thread: u8) -> usize
         requires { thread < length self.now.threads }
         ensures locals { result ≡ (thread_at self.now thread).locals }
@@ -269,7 +268,7 @@ impl Program {
         self.threads[thread as usize].locals
     }
 
-    /// The name of a variable.
+    /// The name of the variable of this number.
     pub fn variable_name(&self, variable: usize) -> &[u8]
         requires { variable < length self.now.variables }
         ensures { result.now ≡ (variable_at self.now variable).name }
@@ -277,7 +276,7 @@ impl Program {
         self.variables[variable].name.as_slice()
     }
 
-    /// The name of a mutex.
+    /// The name of the mutex of this number.
     pub fn mutex_name(&self, mutex: usize) -> &[u8]
         requires { mutex < length self.now.mutexes }
         ensures { result.now ≡ slice_index_or self.now.mutexes mutex [] }
@@ -285,7 +284,7 @@ impl Program {
         self.mutexes[mutex].as_slice()
     }
 
-    /// The name of a condition.
+    /// The name of the condition of this number.
     pub fn condition_name(&self, condition: usize) -> &[u8]
         requires { condition < length self.now.conditions }
         ensures { result.now ≡ slice_index_or self.now.conditions condition [] }
@@ -293,7 +292,7 @@ impl Program {
         self.conditions[condition].as_slice()
     }
 
-    /// The name of a semaphore.
+    /// The name of the semaphore of this number.
     pub fn semaphore_name(&self, semaphore: usize) -> &[u8]
         requires { semaphore < length self.now.semaphores }
         ensures { result.now ≡ (semaphore_at self.now semaphore).name }
@@ -301,7 +300,7 @@ impl Program {
         self.semaphores[semaphore].name.as_slice()
     }
 
-    /// The name of a thread.
+    /// The name of the thread of this number.
     pub fn thread_name(&self, thread: u8) -> &[u8]
         requires { thread < length self.now.threads }
         ensures { result.now ≡ (thread_at self.now thread).name }

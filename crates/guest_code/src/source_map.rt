@@ -33,10 +33,10 @@ impl Model for SourceMap {
     ghost view = { λ m. source_map_view m.places m.locals };
 }
 
-// Adds the places of a statement's instructions. Those of an `if` are its test and, where it has an
-// `else`, the skip after its first block.
+// Adds for each instruction of a statement the place of the statement that it is made of. An `if`
+// has one for its test and, where it has an `else`, one for the skip after its first block.
 #[cycle(places)]
-fn place_statement(places: &mut Vec<Pos>, placed: &Placed) -> Result<(), AllocError>
+fn push_statement_places(places: &mut Vec<Pos>, placed: &Placed) -> Result<(), AllocError>
     ensures { OnOk result (places.new.items
         ≡ places.old.items ++ stmt_places placed.now.at (stmt_view placed.now.statement)) }
 {
@@ -47,21 +47,22 @@ fn place_statement(places: &mut Vec<Pos>, placed: &Placed) -> Result<(), AllocEr
             ..
         } => {
             places.push(placed.at)?;
-            place_block(places, then)?;
+            push_block_places(places, then)?;
             if let Some(other) = otherwise {
                 places.push(placed.at)?;
-                place_block(places, other)?;
+                push_block_places(places, other)?;
             }
             Ok(())
         }
-        Statement::Repeat { times, body } => place_copies(places, body, *times),
+        Statement::Repeat { times, body } => push_repeat_places(places, body, *times),
         _ => Ok(places.push(placed.at)?),
     }
 }
 
-// Adds the places of the instructions of `times` copies of a block. Empty copies cost no time.
+// Adds the places of `times` copies of a block's instructions. Returns at once if it has none:
+// blocks without code, nested in `repeat`s, would else take too long.
 #[cycle(places)]
-fn place_copies(places: &mut Vec<Pos>, body: &[Placed], times: u8) -> Result<(), AllocError>
+fn push_repeat_places(places: &mut Vec<Pos>, body: &[Placed], times: u8) -> Result<(), AllocError>
     ensures { OnOk result (places.new.items
         ≡ places.old.items ++ copies (block_places (block_view body.now)) times) }
 {
@@ -71,25 +72,25 @@ fn place_copies(places: &mut Vec<Pos>, body: &[Placed], times: u8) -> Result<(),
     let mut left = times;
     while left > 0 {
         left -= 1;
-        place_block(places, body)?;
+        push_block_places(places, body)?;
     }
     Ok(())
 }
 
-// Adds the places of a block's instructions.
+// Adds for each instruction of a block the place of the statement that it is made of.
 #[cycle(places)]
-fn place_block(places: &mut Vec<Pos>, block: &[Placed]) -> Result<(), AllocError>
+fn push_block_places(places: &mut Vec<Pos>, block: &[Placed]) -> Result<(), AllocError>
     ensures { OnOk result (places.new.items
         ≡ places.old.items ++ block_places (block_view block.now)) }
 {
     for placed in block {
-        place_statement(places, placed)?;
+        push_statement_places(places, placed)?;
     }
     Ok(())
 }
 
 impl SourceMap {
-    /// The map of a tree that has no fault. That no code is too long is known before any copy of a
+    /// The source map of a tree that has no fault. Too long a code is refused before any copy of a
     /// `repeat` is written.
     ///
     /// # Errors
@@ -105,13 +106,13 @@ impl SourceMap {
         let mut places = Vec::new(alloc);
         for thread in tree.threads() {
             let mut of_thread = Vec::new(alloc);
-            place_block(&mut of_thread, &thread.body)?;
+            push_block_places(&mut of_thread, &thread.body)?;
             places.push(of_thread)?;
         }
         Ok(SourceMap { places, locals })
     }
 
-    /// The place of the statement that an instruction of a thread was made of.
+    /// The place, in the text, of the statement that an instruction of a thread was made of.
     pub fn place(&self, thread: u8, instruction: usize) -> Pos
         requires { instruction < length (places_of self.now thread) }
         ensures { result ≡ slice_index_or (places_of self.now thread) instruction start }
@@ -119,8 +120,8 @@ impl SourceMap {
         self.places[thread as usize][instruction]
     }
 
-    /// The name of a local of a thread, as the text spells it.
-    pub fn local(&self, thread: u8, local: usize) -> &[u8]
+    /// The name of the thread's local of this number, as the text spells it.
+    pub fn local_name(&self, thread: u8, local: usize) -> &[u8]
         requires { local < length (locals_of self.now thread) }
         ensures { result.now ≡ slice_index_or (locals_of self.now thread) local [] }
     {

@@ -1,18 +1,18 @@
 -- The next token of a list is the first of the bytes.
-use Rattle.std.proofs.Common.{◌≡◌, ℕ, ◌<◌, false, List, [], length, Option, Some, None, Result, Ok, Err, option_map, refl, arith}
-use Rattle.std.specs.Prelude.{IfOk, IfSome, IsSome}
+use Rattle.std.proofs.Common.{◌≡◌, ℕ, ◌<◌, false, List, [], length, Option, Some, None, option_map, refl, arith}
+use Rattle.std.specs.Prelude.{IfSome, IsSome}
 use Rattle.guest_syntax.specs.declared.place.Pos.{Pos}
 use Rattle.guest_syntax.specs.declared.error.SyntaxError.{SyntaxError}
 use Rattle.guest_syntax.specs.declared.error.SyntaxError.TheVariants as errors
-use Rattle.guest_syntax.specs.declared.cursor.Cursor.{Cursor}
+use Rattle.guest_syntax.specs.declared.tokens.Reader.{Reader}
 use Rattle.guest_syntax.specs.declared.token.Token.{Token}
 use Rattle.guest_syntax.specs.declared.token.TokenKind.{TokenKind}
 use Rattle.guest_syntax.specs.declared.token.TokenKind.TheVariants as kinds
 use Rattle.guest_syntax.specs.reader.TokenViews.{kind_view, token_view}
 use Rattle.guest_syntax.specs.Answers.{is_token}
-use Rattle.guest_syntax.specs.reader.Gives.{Fails, Gives}
+use Rattle.guest_syntax.specs.reader.Gives.{Fails}
 use Rattle.guest_syntax.specs.reader.Scanner.{skipped, first, scan, tokens_from}
-use Rattle.guest_syntax.specs.reader.Reads.{rest_of, IsPlaceOf, IsTokenOf}
+use Rattle.guest_syntax.specs.reader.Reads.{IsPlaceOf, IsTokenOf}
 use Rattle.guest_syntax.specs.reader.SingleTokens.{is_bad, next_at}
 use Rattle.guest_syntax.proofs.ScannerProgress.{tokens_first}
 
@@ -58,25 +58,24 @@ next_shorter at bytes t p rest e = rw (tokens_first at bytes (Some (Some (token_
     e) (omega arith)
 
 -- what the bytes give is the next token of the list
-pub next_gives : (at : Pos) (bytes : List ℕ) (r : Result (Option Token × Cursor) SyntaxError)
-    → Gives (λ x. option_map (λ t. (token_view t, x.1.at, x.1.rest.now)) x.0) r (first at bytes)
-    → IfOk r (λ x. x.0 ≡ None → x.1.rest.now ≡ [])
-    → Gives (λ x. (option_map token_view x.0, rest_of x.1)) r (next_at (tokens_from at bytes))
-next_gives at bytes (Ok (None, c)) g e = next_end at c.at bytes c.rest.now g (e refl)
-next_gives at bytes (Ok (Some t, c)) g e = next_good at bytes t c.at c.rest.now g
-next_gives at bytes (Err x) g e = fails_then x (first at bytes) (next_at (tokens_from at bytes))
-    (next_bad at bytes) g
+pub next_gives : (at p : Pos) (bytes rest : List ℕ) (o : Option Token)
+    → first at bytes ≡ Some (option_map (λ t. (token_view t, p, rest)) o) → (o ≡ None → rest ≡ [])
+    → next_at (tokens_from at bytes) ≡ Some (option_map token_view o, tokens_from p rest)
+next_gives at p bytes rest None g e = next_end at p bytes rest g (e refl)
+next_gives at p bytes rest (Some t) g e = next_good at bytes t p rest g
 
-pub next_takes_one : (at : Pos) (bytes : List ℕ) (r : Result (Option Token × Cursor) SyntaxError)
-    → Gives (λ x. option_map (λ t. (token_view t, x.1.at, x.1.rest.now)) x.0) r (first at bytes)
-    → IfOk r (λ x. IsSome x.0 → length (rest_of x.1) < length (tokens_from at bytes))
-next_takes_one at bytes (Ok (None, c)) g = λ some. absurd cc
-next_takes_one at bytes (Ok (Some t, c)) g = λ some. next_shorter at bytes t c.at c.rest.now g
-next_takes_one at bytes (Err x) g = tt
+pub next_fails : (at : Pos) (bytes : List ℕ) (e : SyntaxError) → Fails e (first at bytes)
+    → Fails e (next_at (tokens_from at bytes))
+next_fails at bytes e g =
+    fails_then e (first at bytes) (next_at (tokens_from at bytes)) (next_bad at bytes) g
 
-pub next_place : (text : Cursor) (r : Result (Option Token × Cursor) SyntaxError)
-    → IfOk r (λ x. IfSome x.0 (λ t. IsTokenOf text (token_view t)))
-    → IfOk r (λ x. IfSome x.0 (λ t. IsPlaceOf text t.at))
-next_place text (Ok (None, c)) h = tt
-next_place text (Ok (Some t, c)) h = is_token (kind_view t.kind) h
-next_place text (Err e) h = tt
+pub next_takes_one : (at p : Pos) (bytes rest : List ℕ) (o : Option Token)
+    → first at bytes ≡ Some (option_map (λ t. (token_view t, p, rest)) o) → IsSome o
+    → length (tokens_from p rest) < length (tokens_from at bytes)
+next_takes_one at p bytes rest None g = λ some. absurd cc
+next_takes_one at p bytes rest (Some t) g = λ some. next_shorter at bytes t p rest g
+
+pub next_place : (r : Reader) (o : Option Token) → IfSome o (λ t. IsTokenOf r (token_view t))
+    → IfSome o (λ t. IsPlaceOf r t.at)
+next_place r None h = tt
+next_place r (Some t) h = is_token (kind_view t.kind) h

@@ -21,19 +21,19 @@ pub enum SyntaxError {
     NumberTooBig(Pos),
     /// A text of more than [`TEXT_BYTES`](crate::TEXT_BYTES) bytes; the place is 1:1.
     TooLong(Pos),
-    /// The opening brace of a block that lies too deep.
+    /// The opening brace of a block that lies more than [`DEPTH`](crate::limits::DEPTH) deep.
     TooDeep(Pos),
     /// Memory ran out.
     OutOfMemory,
 }
 
-/// What the user is told: the number and the name of the refusal, and its place.
 impl fmt::Display for SyntaxError {
     ghost use Rattle.std.specs.Prelude.{Some};
     ghost use Rattle.guest_syntax.specs.ErrorTexts.{syntax_error_text};
 
     ghost output = { λ e. Some (syntax_error_text e) };
 
+    /// What the user is told, as `syntax S2 BadChar at 1:3`; `memory` where memory ran out.
     fn fmt<W: fmt::Write>(&self, f: &mut fmt::Formatter<W>) -> fmt::Result {
         match self {
             SyntaxError::NotAscii(at) => write!(f, "syntax S1 NotAscii at {at}"),
@@ -50,6 +50,7 @@ impl fmt::Display for SyntaxError {
 impl From<AllocError> for SyntaxError {
     ghost from_gives = { λ _ e. e ≡ OutOfMemory };
 
+    /// Memory that ran out is told by [`SyntaxError::OutOfMemory`].
     fn from(_e: AllocError) -> SyntaxError {
         SyntaxError::OutOfMemory
     }
@@ -58,6 +59,7 @@ impl From<AllocError> for SyntaxError {
 impl<T: Drop> From<AllocFailed<T>> for SyntaxError {
     ghost from_gives = { λ _ e. e ≡ OutOfMemory };
 
+    /// Memory that ran out is told by [`SyntaxError::OutOfMemory`].
     fn from(_e: AllocFailed<T>) -> SyntaxError {
         SyntaxError::OutOfMemory
     }

@@ -6,56 +6,13 @@ ghost use Rattle.guest_syntax.specs.Tree.{operand_view, expr_view};
 ghost use Rattle.guest_syntax.specs.reader.Reads.{IsTokenOf, rest_of, Parses, Reads, StaysIn};
 ghost use Rattle.guest_syntax.specs.reader.Expressions.{literal_by, literal_from, operand_from, op_of, expr_from};
 
-use crate::cursor::Cursor;
 use crate::error::SyntaxError;
 use crate::limits::NUMBER;
 use crate::token::{Symbol, Token, TokenKind};
-use crate::tokens::{number, token};
+use crate::tokens::Reader;
 use crate::tree::{Expr, Name, Op, Operand};
-use std::alloc::Global;
 
-// The literal that begins with `token`, which is read already, and the cursor after the literal.
-fn literal_after<'a>(token: Token, after: Cursor<'a>) -> Result<(i64, Cursor<'a>), SyntaxError>
-    requires place { IsTokenOf after (token_view token) }
-    ensures gives { Reads (λ x. x) result (literal_by (kind_view token.entry.kind)) after.entry }
-    ensures within { StaysIn result after.entry }
-    ensures shorter { IfOk result (λ x. length (rest_of x.1) ≤ length (rest_of after.entry)) }
-{
-    match token.kind {
-        TokenKind::Number(n) if n <= NUMBER => Ok((n as i64, after)),
-        TokenKind::Number(_) => Err(SyntaxError::NumberTooBig(token.at)),
-        TokenKind::Symbol(Symbol::Minus) => {
-            let (n, after) = number(after, NUMBER)?;
-            Ok((-(n as i64), after))
-        }
-        _ => Err(SyntaxError::Expected(token.at)),
-    }
-}
-
-/// A number, or a minus and a number, and the cursor after it.
-#[tactic(auto, unfolding(crate::specs::reader::Expressions::literal_from))]
-pub fn literal<'a>(text: Cursor<'a>) -> Result<(i64, Cursor<'a>), SyntaxError>
-    ensures { Parses (λ x. x) result literal_from text.entry }
-{
-    let (token, after) = token(text)?;
-    literal_after(token, after)
-}
-
-/// A local or a literal, and the cursor after it.
-#[tactic(auto, unfolding(crate::specs::reader::Expressions::operand_from))]
-pub fn operand<'a>(alloc: Global, text: Cursor<'a>) -> Result<(Operand, Cursor<'a>), SyntaxError>
-    ensures { Parses operand_view result operand_from text.entry }
-{
-    let (token, after) = token(text)?;
-    if let TokenKind::Name(bytes) = token.kind {
-        let text = Vec::from_slice(alloc, bytes)?;
-        return Ok((Operand::Local(Name { text, at: token.at }), after));
-    }
-    let (value, after) = literal_after(token, after)?;
-    Ok((Operand::Literal(value), after))
-}
-
-// The operator of an expression that a token is, if any.
+// Which operator of an expression, such as `+`, a token is; `None` where it is none of them.
 fn op_of(kind: TokenKind) -> Option<Op>
     ensures { result ≡ op_of (kind_view kind.entry) }
 {
@@ -73,18 +30,65 @@ fn op_of(kind: TokenKind) -> Option<Op>
     }
 }
 
-/// An operand, or two with an operator between them, and the cursor after the expression.
-#[tactic(auto, unfolding(crate::specs::reader::Expressions::expr_from))]
-pub fn expr<'a>(alloc: Global, text: Cursor<'a>) -> Result<(Expr, Cursor<'a>), SyntaxError>
-    ensures { Parses expr_view result expr_from text.entry }
-{
-    let (left, following) = operand(alloc, text)?;
-    let (token, after) = token(following)?;
-    match op_of(token.kind) {
-        None => Ok((Expr::Single(left), following)),
-        Some(op) => {
-            let (right, after) = operand(alloc, after)?;
-            Ok((Expr::Both(left, op, right), after))
+impl Reader<'_> {
+    // Reads the rest of a literal, whose first token, `token`, is read already. Answers its value;
+    // refuses a token that begins no literal, and a number above `NUMBER`.
+    fn rest_of_literal(&mut self, token: Token) -> Result<i64, SyntaxError>
+        requires place { IsTokenOf self.old (token_view token) }
+        ensures gives { Reads (λ x. x) result (literal_by (kind_view token.entry.kind))
+            self.old self.new }
+        ensures within { StaysIn result self.old self.new }
+        ensures shorter { IfOk result (λ _. length (rest_of self.new) ≤ length (rest_of self.old)) }
+    {
+        match token.kind {
+            TokenKind::Number(n) if n <= NUMBER => Ok(n as i64),
+            TokenKind::Number(_) => Err(SyntaxError::NumberTooBig(token.at)),
+            TokenKind::Symbol(Symbol::Minus) => {
+                let n = self.number(NUMBER)?;
+                Ok(-(n as i64))
+            }
+            _ => Err(SyntaxError::Expected(token.at)),
+        }
+    }
+
+    /// Reads a number up to `NUMBER`, with or without a minus before it, and answers its value.
+    #[tactic(auto, unfolding(crate::specs::reader::Expressions::literal_from))]
+    pub fn literal(&mut self) -> Result<i64, SyntaxError>
+        ensures { Parses (λ x. x) result literal_from self.old self.new }
+    {
+        let token = self.token()?;
+        self.rest_of_literal(token)
+    }
+
+    /// Reads an operand: a name, which stands for a local, or a literal.
+    #[tactic(auto, unfolding(crate::specs::reader::Expressions::operand_from))]
+    pub fn operand(&mut self) -> Result<Operand, SyntaxError>
+        ensures { Parses operand_view result operand_from self.old self.new }
+    {
+        let token = self.token()?;
+        if let TokenKind::Name(bytes) = token.kind {
+            let text = Vec::from_slice(self.alloc, bytes)?;
+            return Ok(Operand::Local(Name { text, at: token.at }));
+        }
+        let value = self.rest_of_literal(token)?;
+        Ok(Operand::Literal(value))
+    }
+
+    /// Reads an operand, or two with an operator between them; refuses the text's end after one.
+    #[tactic(auto, unfolding(crate::specs::reader::Expressions::expr_from))]
+    pub fn expr(&mut self) -> Result<Expr, SyntaxError>
+        ensures { Parses expr_view result expr_from self.old self.new }
+    {
+        let left = self.operand()?;
+        let mut ahead = *self;
+        let token = ahead.token()?;
+        match op_of(token.kind) {
+            None => Ok(Expr::Single(left)),
+            Some(op) => {
+                let right = ahead.operand()?;
+                *self = ahead;
+                Ok(Expr::Both(left, op, right))
+            }
         }
     }
 }

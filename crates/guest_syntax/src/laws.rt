@@ -7,7 +7,7 @@ ghost use Rattle.guest_syntax.specs.StatementPlaces.{AreInThreads};
 
 use crate::limits::{COUNT, DEPTH, NUMBER, REPEATS, TEXT_BYTES};
 
-/// A text spells at most one tree.
+/// Does nothing. Its contract: a text spells at most one tree.
 pub fn one_tree()
     ensures { (text : List ℕ) (t u : model.Tree) → Spells text t → Spells text u → t ≡ u }
 {}
@@ -17,7 +17,7 @@ pub fn statements_are_in_their_threads()
     ensures { (text : List ℕ) (t : model.Tree) → Spells text t → AreInThreads t.threads }
 {}
 
-/// Each limit of a text is the number that its clause gives.
+/// Does nothing. Its contract: each limit of a text is the number that the clause gives.
 pub fn limits_are()
     ensures text_bytes { TEXT_BYTES ≡ 65536 }
     ensures depth { DEPTH ≡ 32 }

@@ -5,10 +5,10 @@ ghost use Rattle.std.specs.List.{starts_with, prefix_len};
 ghost use Rattle.std.specs.Str.{bytes_eq};
 ghost use Rattle.guest_syntax.specs.reader.Scanner.{skipped, name_or_keyword, capped, symbol_at, kind_at, first};
 ghost use Rattle.guest_syntax.specs.reader.Gives.{Gives};
-ghost use Rattle.guest_syntax.specs.reader.Reads.{Scans, StaysIn, IsTokenOf};
+ghost use Rattle.guest_syntax.specs.reader.Reads.{Scans};
 ghost use Rattle.guest_syntax.specs.Place.{after};
 ghost use Rattle.guest_syntax.specs.Place as place;
-ghost use Rattle.guest_syntax.specs.Answers.{RefusalIn};
+ghost use Rattle.guest_syntax.specs.Answers.{IsTokenIn, RefusalIn};
 ghost use Rattle.guest_syntax.specs.reader.TokenViews.{kind_view, token_view};
 ghost use Rattle.guest_syntax.specs.Tokens.{keyword_text, symbol_text, is_space, is_letter, is_digit, is_name_byte, blank};
 
@@ -24,30 +24,30 @@ fn is_space(byte: u8) -> bool
     byte == b' ' || byte == b'\t' || byte == b'\n' || byte == b'\r'
 }
 
-// Whether a byte is an ASCII letter or `_`: the first byte of a name or a keyword.
-fn is_letter(byte: u8) -> bool
+// Whether a name or a keyword may begin with a byte: an ASCII letter or `_`.
+fn is_name_start(byte: u8) -> bool
     ensures { result ≡ is_letter byte }
 {
     byte.is_ascii_alphabetic() || byte == b'_'
 }
 
 // Whether a byte is an ASCII digit.
-fn is_digit(byte: u8) -> bool
+fn is_ascii_digit(byte: u8) -> bool
     ensures { result ≡ is_digit byte }
 {
     byte.is_ascii_digit()
 }
 
-// Whether a byte may stand in a name after the first: an ASCII letter, `_` or a digit.
+// Whether a byte may be in a name after its first byte: an ASCII letter, `_` or a digit.
 fn is_name_byte(byte: u8) -> bool
     ensures { result ≡ is_name_byte byte }
 {
-    is_letter(byte) || is_digit(byte)
+    is_name_start(byte) || is_ascii_digit(byte)
 }
 
-/// Whether a comment goes on after a byte, where `comment` tells whether one goes on before it;
-/// none where the byte is neither blank nor in a comment.
-pub fn blank_after(comment: bool, byte: u8) -> Option<bool>
+/// Whether a comment goes on after a byte, where `comment` says whether one goes on before it;
+/// `None` where the byte is neither in a comment nor blank, nor the `#` that begins a comment.
+pub fn comment_goes_on(comment: bool, byte: u8) -> Option<bool>
     ensures { result ≡ blank comment (byte ∷ []) }
 {
     if comment {
@@ -61,7 +61,8 @@ pub fn blank_after(comment: bool, byte: u8) -> Option<bool>
     }
 }
 
-// The place after the leading spaces and comments of a text at `start`, and the rest of the text.
+// The place after the spaces and comments that a text at `start` begins with, and the text from
+// there. Refuses a byte above 127 in these or right after them.
 fn skip_blank_bytes<'a>(text: &'a [u8], start: Pos) -> Result<(Pos, &'a [u8]), SyntaxError>
     requires line { start.line + length text.now < 2 ^ 32 }
     requires col { start.col + length text.now < 2 ^ 32 }
@@ -76,7 +77,7 @@ fn skip_blank_bytes<'a>(text: &'a [u8], start: Pos) -> Result<(Pos, &'a [u8]), S
         if *byte > 127 {
             return Err(SyntaxError::NotAscii(at));
         }
-        match blank_after(comment, *byte) {
+        match comment_goes_on(comment, *byte) {
             Some(goes_on) => comment = goes_on,
             None => return Ok((at, &text[i..])),
         }
@@ -85,7 +86,8 @@ fn skip_blank_bytes<'a>(text: &'a [u8], start: Pos) -> Result<(Pos, &'a [u8]), S
     Ok((at, &text[text.len()..]))
 }
 
-// The cursor after the spaces and comments that come next.
+// The cursor after the spaces and comments that come next in the text. Refuses a byte above 127 in
+// these or right after them.
 fn skip_blanks<'a>(text: Cursor<'a>) -> Result<Cursor<'a>, SyntaxError>
     ensures gives { Gives (λ x. (x.at, x.rest.now)) result
         (skipped false text.entry.at text.entry.rest.now) }
@@ -97,7 +99,7 @@ fn skip_blanks<'a>(text: Cursor<'a>) -> Result<Cursor<'a>, SyntaxError>
     Ok(Cursor { text, rest, at })
 }
 
-/// The cursor `len` bytes further on.
+/// The cursor after the next `len` bytes of the text.
 pub fn advance<'a>(text: Cursor<'a>, len: usize) -> Cursor<'a>
     requires { len ≤ length text.rest.now }
     ensures rest { result.rest.now ≡ drop len text.entry.rest.now }
@@ -110,14 +112,14 @@ pub fn advance<'a>(text: Cursor<'a>, len: usize) -> Cursor<'a>
     Cursor { text, rest, at }
 }
 
-// The keyword among `keywords` that is written as `text`, if any.
+// The keyword among `keywords` that is written as `text`; `None` where none is.
 fn keyword_in(keywords: &[Keyword], text: &[u8]) -> Option<Keyword>
     ensures { result ≡ find (λ w. bytes_eq (keyword_text w) text.now) keywords.now }
 {
     keywords.iter().copied().find(|w| w.text() == text)
 }
 
-// What a word is: the keyword that is written so, or else a name.
+// What kind of token a word is: the keyword that is written like it, or else a name.
 fn keyword_or_name(text: &[u8]) -> TokenKind<'_>
     ensures { kind_view result ≡ name_or_keyword text.now }
 {
@@ -127,8 +129,8 @@ fn keyword_or_name(text: &[u8]) -> TokenKind<'_>
     }
 }
 
-// The value of decimal digits; 2^64 - 1 for every number above that.
-fn number(digits: &[u8]) -> u64
+// The number that decimal digits spell; 2^64 - 1 for every number above that.
+fn saturating_number(digits: &[u8]) -> u64
     ensures { result ≡ capped digits.now }
 {
     digits.iter().fold(
@@ -139,60 +141,64 @@ fn number(digits: &[u8]) -> u64
     )
 }
 
-// The first of `symbols` that a text begins with, if any.
+// The first of `symbols` that a text begins with; `None` where it begins with none of them.
 fn symbol_in(symbols: &[Symbol], text: &[u8]) -> Option<Symbol>
     ensures { result ≡ find (λ s. starts_with nat_eq text.now (symbol_text s)) symbols.now }
 {
     symbols.iter().copied().find(|s| text.starts_with(s.text()))
 }
 
-// The longest operator or mark that a text begins with, if any.
+// The longest symbol that a text begins with: `SYMBOLS` has longer ones first; `None` if none.
 fn symbol_at(text: &[u8]) -> Option<Symbol>
     ensures { result ≡ symbol_at text.now }
 {
     symbol_in(&SYMBOLS, text)
 }
 
-// How many bytes of a text come before the first that may not stand in a name.
+// How many ASCII letters, digits and `_` a text begins with.
 fn name_len(text: &[u8]) -> usize
     ensures { result ≡ prefix_len is_name_byte text.now }
 {
     text.iter().take_while(|b| is_name_byte(**b)).count()
 }
 
-// How many bytes of a text come before the first that is no digit.
+// How many ASCII digits a text begins with.
 fn digits_len(text: &[u8]) -> usize
     ensures { result ≡ prefix_len is_digit text.now }
 {
-    text.iter().take_while(|b| is_digit(**b)).count()
+    text.iter().take_while(|b| is_ascii_digit(**b)).count()
 }
 
-/// The longest token that a text begins with, and its length in bytes; none where there is none.
+/// The longest token that a text begins with: its kind, and its length in bytes. `None` where the
+/// text, which isn't empty, begins with a byte that begins no token, such as a space.
 #[tactic(auto, unfolding(crate::specs::reader::Scanner::kind_at))]
 pub fn kind_at(text: &[u8]) -> Option<(TokenKind<'_>, usize)>
     requires { 0 < length text.now }
     ensures kind { option_map (λ x. (kind_view x.0, x.1)) result ≡ kind_at text.now }
     ensures length { IfSome result (λ x. x.1 ≤ length text.now) }
 {
-    if is_letter(text[0]) {
+    if is_name_start(text[0]) {
         let len = name_len(text);
         Some((keyword_or_name(&text[..len]), len))
-    } else if is_digit(text[0]) {
+    } else if is_ascii_digit(text[0]) {
         let len = digits_len(text);
-        Some((TokenKind::Number(number(&text[..len])), len))
+        Some((TokenKind::Number(saturating_number(&text[..len])), len))
     } else {
         let symbol = symbol_at(text)?;
         Some((TokenKind::Symbol(symbol), symbol.text().len()))
     }
 }
 
-/// The next token, past spaces and comments, and the cursor after it; or none and the text's end.
+/// The next token, past spaces and comments, and the cursor after it; `None` at the text's end.
+/// Refuses a byte above 127, or one that begins no token.
 #[tactic(auto, unfolding(crate::specs::reader::Scanner::first))]
 pub fn first_token<'a>(text: Cursor<'a>) -> Result<(Option<Token<'a>>, Cursor<'a>), SyntaxError>
     ensures gives { Scans result text.entry }
     ensures end { IfOk result (λ x. x.0 ≡ None → x.1.rest.now ≡ []) }
-    ensures within { StaysIn result text.entry }
-    ensures place { IfOk result (λ x. IfSome x.0 (λ t. IsTokenOf text.entry (token_view t))) }
+    ensures same { IfOk result (λ x. x.1.text.now ≡ text.entry.text.now) }
+    ensures refused { IfErr result (RefusalIn place.start text.entry.text.now) }
+    ensures place { IfOk result (λ x. IfSome x.0 (λ t.
+        IsTokenIn place.start text.entry.text.now (kind_view t.kind) t.at)) }
 {
     let start = skip_blanks(text)?;
     if start.rest.is_empty() {

@@ -6,13 +6,12 @@
 //! text is read: what a token is, that the longest is taken, which tokens spell a tree, all limits.
 //!
 //! What [`parse`] promises of every text stands at its clauses: a tree is answered exactly where
-//! the text spells it, memory aside, and a refusal is so at its place. A text spells at most one
-//! tree ([`laws::one_tree`]), and each statement is in the text of its thread
+//! the text spells it, unless memory runs out, and what a refusal says is so at its place. A text
+//! spells at most one tree ([`laws::one_tree`]), and each statement is in the text of its thread
 //! ([`laws::statements_are_in_their_threads`]). Reading ends, and reads no byte outside the text.
 //!
-//! [`pieces::Pieces`] gives the tokens also of a text that spells no tree. Tests show which fault
-//! is the first, and at which of the text's tokens. `specs/reader` models the reader of this crate
-//! for proofs alone: no public contract cites a definition of `specs/reader`.
+//! [`pieces::Pieces`] gives the tokens also of a text that doesn't parse. Tests show which fault is
+//! the first, and at which token. `specs/reader` models the reader, for proofs alone.
 #![tactic(auto)]
 
 mod blocks;

@@ -6,7 +6,7 @@ ghost use Rattle.guest_syntax.specs.Tokens.{blank};
 ghost use Rattle.guest_syntax.specs.Pieces.{IsGapBefore, IsWhole, IsStray, open_after, ClosesAt};
 
 use crate::cursor::Cursor;
-use crate::lexer::{advance, blank_after, kind_at};
+use crate::lexer::{advance, comment_goes_on, kind_at};
 use crate::limits::TEXT_BYTES;
 use crate::place::Pos;
 
@@ -26,7 +26,8 @@ pub struct Pieces<'a> {
 }
 
 impl<'a> Pieces<'a> {
-    /// The pieces of a text, or of its first [`TEXT_BYTES`](crate::TEXT_BYTES) bytes if longer.
+    /// An iterator over the tokens of a text and its bytes that begin no token, in text order. It
+    /// leaves out all bytes after the first [`TEXT_BYTES`](crate::TEXT_BYTES).
     #[tactic(auto, using(std::proofs::lemmas::List::take_min))]
     pub fn new(text: &'a [u8]) -> Pieces<'a>
         ensures rest { result.left.rest.now ≡ take TEXT_BYTES text.now }
@@ -46,7 +47,7 @@ fn gap_len(text: &[u8]) -> usize
 {
     let mut comment = false;
     for (i, byte) in text.iter().enumerate() {
-        match blank_after(comment, *byte) {
+        match comment_goes_on(comment, *byte) {
             Some(goes_on) => comment = goes_on,
             None => return i,
         }
@@ -54,7 +55,7 @@ fn gap_len(text: &[u8]) -> usize
     text.len()
 }
 
-// How many bytes the token has that a text begins with; 1 where the text begins with no token.
+// How many bytes the longest token has that a text begins with; 1 where none begins there.
 fn piece_len(text: &[u8]) -> usize
     requires { 0 < length text.now }
     ensures some { 0 < result }
@@ -79,6 +80,7 @@ impl<'a> Iterator for Pieces<'a> {
 
     ghost remaining = { λ s. at_most (length s.left.rest.now) };
 
+    /// The next token past spaces and comments, or a byte that begins no token; `None` at the end.
     fn next(&mut self) -> Option<Piece<'a>> {
         let start = advance(self.left, gap_len(self.left.rest));
         self.left = start;
@@ -94,7 +96,7 @@ impl<'a> Iterator for Pieces<'a> {
     }
 }
 
-// How many blocks are open after a piece, if `depth` are before it; none if it closes no open one.
+// How many blocks are open after a piece if `depth` are open before; `None` for a `}` at depth 0.
 fn open_after(piece: &Piece<'_>, depth: usize) -> Option<usize>
     requires { depth + 1 < 2 ^ 64 }
     ensures is { result ≡ open_after piece.now depth }
@@ -109,7 +111,7 @@ fn open_after(piece: &Piece<'_>, depth: usize) -> Option<usize>
     }
 }
 
-/// The index of the `}` that closes the block in which `pieces` begin; none where that stays open.
+/// The index of the `}` that closes the block in which `pieces` begin; `None` if none does.
 pub fn closing_brace(pieces: &[Piece<'_>]) -> Option<usize>
     ensures found { IfSome result (ClosesAt pieces.now) }
     ensures none { result ≡ None → (n : ℕ) → ClosesAt pieces.now n → ⊥ }

@@ -15,7 +15,7 @@ pub struct Pos {
 }
 
 impl Pos {
-    /// The place after a byte that is at this place.
+    /// The place right after `byte`, which is at this place; a line feed ends the line.
     #[tactic(auto, unfolding(crate::specs::Place::past))]
     pub(crate) fn past(self, byte: u8) -> Pos
         requires line { self.line + 1 < 2 ^ 32 }
@@ -37,7 +37,7 @@ impl Pos {
         }
     }
 
-    /// The place after bytes of which the first is at this place.
+    /// The place right after `bytes`, the first of which is at this place.
     pub(crate) fn after(self, bytes: &[u8]) -> Pos
         requires line { self.line + length bytes.now < 2 ^ 32 }
         requires col { self.col + length bytes.now < 2 ^ 32 }
@@ -53,13 +53,13 @@ impl Pos {
     }
 }
 
-/// Line and column with a colon between them, as `1:21`.
 impl fmt::Display for Pos {
     ghost use Rattle.std.specs.Prelude.{Some};
     ghost use Rattle.guest_syntax.specs.ErrorTexts.{place_text};
 
     ghost output = { λ at. Some (place_text at) };
 
+    /// Line and column with a colon between them, as `1:21`.
     fn fmt<W: fmt::Write>(&self, f: &mut fmt::Formatter<W>) -> fmt::Result {
         write!(f, "{}:{}", self.line, self.col)
     }

@@ -1,4 +1,4 @@
-//! Reading a text.
+//! Reading a text into its tree.
 
 ghost use Rattle.std.specs.Prelude.{◌≡◌, ◌≢◌, ◌<◌, length, IfOk, IfErr, Err};
 ghost use Rattle.guest_syntax.specs.declared.error.SyntaxError.TheVariants.{OutOfMemory, TooLong};
@@ -12,17 +12,17 @@ ghost use Rattle.guest_syntax.specs.Grammar.{Spells};
 use crate::cursor::Cursor;
 use crate::error::SyntaxError;
 use crate::limits::TEXT_BYTES;
-use crate::parser::tree;
 use crate::place::Pos;
+use crate::tokens::Reader;
 use crate::tree::Tree;
 use std::alloc::Global;
 
-/// The tree that a text spells.
+/// Reads a whole text into the tree that it spells.
 ///
 /// # Errors
 ///
 /// `TooLong` where the text has more than [`TEXT_BYTES`](crate::TEXT_BYTES) bytes; else the first
-/// fault in text order, with its place; `OutOfMemory` where memory runs out before that.
+/// fault in text order, with its place; `OutOfMemory` where memory runs out first.
 pub fn parse(alloc: Global, text: &[u8]) -> Result<Tree, SyntaxError>
     // What is answered is spelled by the text.
     ensures found { IfOk result (λ t. Spells text.now (tree_view t)) }
@@ -42,5 +42,6 @@ pub fn parse(alloc: Global, text: &[u8]) -> Result<Tree, SyntaxError>
         return Err(SyntaxError::TooLong(at));
     }
     let rest = text;
-    tree(alloc, Cursor { text, rest, at })
+    let cursor = Cursor { text, rest, at };
+    Reader { alloc, cursor }.tree()
 }

@@ -5,7 +5,7 @@ ghost use Rattle.guest_syntax.specs.Tokens.{keyword_text, symbol_text};
 
 use crate::place::Pos;
 
-/// A reserved word, which is no name.
+/// A reserved word: nothing may have it as its name.
 #[derive(Clone, Copy, Debug, PartialEq, Eq)]
 pub enum Keyword {
     Var,
@@ -32,7 +32,7 @@ pub enum Keyword {
     Assert,
 }
 
-/// An operator or a mark, which is the `=` before an opening value, a brace or `;`.
+/// An operator such as `+`, or a mark: the `=` of a declaration, a brace or `;`.
 #[derive(Clone, Copy, Debug, PartialEq, Eq)]
 pub enum Symbol {
     Equal,
@@ -143,7 +143,7 @@ impl Keyword {
 }
 
 impl Symbol {
-    /// How the operator or mark is written.
+    /// How the symbol, an operator or a mark such as `;`, is written.
     pub fn text(self) -> &'static [u8]
         ensures { result.now ≡ symbol_text self }
     {

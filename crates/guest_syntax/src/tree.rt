@@ -23,7 +23,7 @@ pub enum Operand {
     Literal(i64),
 }
 
-/// What an expression makes of two values; `+`, `-`, `*` wrap, signed comparisons give 1 or 0.
+/// What an expression makes of two values: `+`, `-`, `*` wrap; signed comparisons give 1 or 0.
 #[derive(Clone, Copy, Debug, PartialEq, Eq)]
 pub enum Op {
     /// `+`
@@ -78,7 +78,7 @@ pub enum Statement {
     },
     /// Writes the value to the variable.
     Store {
-        /// What is written.
+        /// What is written to.
         variable: Name,
         /// What is written to the variable.
         value: Operand,
@@ -98,7 +98,7 @@ pub enum Statement {
         local: Name,
         /// What is compared and set.
         variable: Name,
-        /// What the variable must have to be set.
+        /// The value that the variable must have to be set.
         expected: Operand,
         /// What the variable is set to.
         new: Operand,
@@ -129,7 +129,7 @@ pub enum Statement {
         /// What the local is set to.
         value: Expr,
     },
-    /// Stops the thread where the value is 0.
+    /// Stops the thread where the expression's value is 0.
     Assert(Expr),
     /// Runs the block `then` where the test's value is not 0, else the block `otherwise`, if any.
     If {
@@ -151,16 +151,16 @@ pub enum Statement {
     Leave,
 }
 
-/// What a declaration declares, with its opening value.
+/// What a declaration declares, with its value before the first step.
 #[derive(Clone, Copy, Debug, PartialEq, Eq)]
 pub enum Object {
-    /// A variable, with its opening value: 0 where the text gives none.
+    /// A variable, with its value before the first step: 0 where the text gives none.
     Variable(i64),
     /// A mutex.
     Mutex,
     /// A condition.
     Condition,
-    /// A semaphore, with its opening count.
+    /// A semaphore, with its count before the first step.
     Semaphore(u16),
 }
 
@@ -169,7 +169,7 @@ pub enum Object {
 pub struct Declaration {
     /// The object's name.
     pub name: Name,
-    /// What kind of object is declared, with its opening value.
+    /// What kind of object is declared, with its value before the first step.
     pub object: Object,
 }
 

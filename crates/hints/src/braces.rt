@@ -1,6 +1,6 @@
 //! Which closing brace seems to be missing.
 
-use crate::pieces::{closing_piece, is_first_in_line};
+use crate::pieces::{closing_index, is_first_in_line};
 use guest_syntax::pieces::Piece;
 use guest_syntax::place::Pos;
 use std::fmt;
@@ -14,8 +14,8 @@ pub struct OpenBlock {
     closed: Option<(Pos, u32)>,
 }
 
-/// What is said of the block's `{`: where it is closed, if anywhere, and where a `}` seems missing.
 impl fmt::Display for OpenBlock {
+    /// Writes where the block is closed, if anywhere, and after which line a `}` seems missing.
     fn fmt<W: fmt::Write>(&self, f: &mut fmt::Formatter<W>) -> fmt::Result {
         match self.closed {
             Some((close, line)) => write!(
@@ -33,8 +33,8 @@ fn indent(pieces: &[Piece<'_>], line: u32) -> u32 {
     first.map_or(0, |piece| piece.at.col)
 }
 
-// The last of the lines that follow a line and are indented deeper, up to the first that isn't; the
-// line itself where the next one isn't. Lines without a piece don't count.
+// The last of the lines right after `line` that are indented deeper than it; `line` itself where
+// the next one isn't deeper. Lines without a piece don't count.
 fn last_deeper_line(pieces: &[Piece<'_>], line: u32) -> u32 {
     let depth = indent(pieces, line);
     let mut last = line;
@@ -57,7 +57,7 @@ fn open_block_at(pieces: &[Piece<'_>], index: usize) -> Option<OpenBlock> {
     if !matches!(pieces.get(index)?.text, b"{") {
         return None;
     }
-    let Some(close) = closing_piece(pieces, index) else {
+    let Some(close) = closing_index(pieces, index) else {
         return Some(OpenBlock { at, closed: None });
     };
     let end = pieces.get(close)?.at;
@@ -71,7 +71,7 @@ fn open_block_at(pieces: &[Piece<'_>], index: usize) -> Option<OpenBlock> {
 /// The block whose `}` seems to be missing, among those with a `{` before the index `end`: the
 /// first that is closed too late, by the indents of lines, or else the last that is never closed.
 /// `None` where all are closed as they should be.
-pub fn missing_brace(pieces: &[Piece<'_>], end: usize) -> Option<OpenBlock> {
+pub fn find_open_block(pieces: &[Piece<'_>], end: usize) -> Option<OpenBlock> {
     let mut unclosed = None;
     for index in 0..end {
         match open_block_at(pieces, index) {

@@ -1,8 +1,8 @@
 //! What is said of a tree that is no program, beside the short form of its refusal.
 
-use crate::declared::{DeclaredName, first_declaration, kind_word, nearest_object};
 use crate::forms::Slot;
 use crate::message::Message;
+use crate::names::{DeclaredName, first_declaration, kind_word, nearest_object};
 use crate::pieces::{span_at, text_of};
 use crate::site::FaultSite;
 use guest_code::error::CheckError;
@@ -11,8 +11,8 @@ use guest_code::limits::{LOCALS, OBJECTS, THREADS, VARIABLES};
 use guest_syntax::tree::Tree;
 use std::alloc::{AllocError, Global};
 
-/// What is wrong with a tree that is no program, by its error and the error's site, and what to
-/// write instead. The message is empty where memory ran out, which is no fault of the tree.
+/// The message on a tree that is no program, for this error: what is wrong at the error's site, and
+/// what to write instead. It is empty where memory ran out, which is no fault of the tree.
 ///
 /// # Errors
 ///
@@ -61,7 +61,7 @@ fn duplicate_message(
 }
 
 // The message on the name at the site, which has to be an object's and isn't declared, with a note:
-// the declared name nearest to it, or what to write instead, or how to declare it.
+// the declared name nearest to it; else, if it is a local, what to write; else how to declare it.
 fn unknown_message(alloc: Global, site: FaultSite<'_>, tree: &Tree) -> Result<Message, AllocError> {
     let found = site.found();
     let (kind, keyword, opening) = match site.slot() {
@@ -82,7 +82,8 @@ fn unknown_message(alloc: Global, site: FaultSite<'_>, tree: &Tree) -> Result<Me
 }
 
 // The message on the name at the site, which is declared, but not as what has to be named there:
-// what it is declared as, what has to be there, and notes on what to write instead.
+// what it is declared as, what has to be there, and notes on what to write instead. It is empty
+// where the name isn't declared.
 fn wrong_kind_message(
     alloc: Global,
     site: FaultSite<'_>,

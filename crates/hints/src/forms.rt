@@ -10,8 +10,9 @@ use std::str::from_utf8;
 #[derive(Clone, Copy, Debug, PartialEq, Eq)]
 pub struct Slot(pub &'static str);
 
-/// What has to be at the place, as messages say it.
 impl fmt::Display for Slot {
+    /// Writes in words what has to be filled in, as `the name of a mutex` for `MUTEX`, or else the
+    /// sign, as `=`. All words without a line of their own, as `VALUE`, stand for a value.
     fn fmt<W: fmt::Write>(&self, f: &mut fmt::Formatter<W>) -> fmt::Result {
         match self.0 {
             "LOCAL" => write!(f, "the name of a local"),
@@ -69,7 +70,7 @@ pub static STATEMENTS: [Form; 16] = [
 static ELSE: Form = Form("else", "if VALUE { .. } else { .. }");
 
 impl Form {
-    /// The form with this keyword, in upper or lower case; `None` where no form has it.
+    /// The form with this keyword, case ignored; `None` where no form has it.
     pub fn with_keyword(keyword: &str) -> Option<Form> {
         let mut all = DECLARATIONS.iter().chain(&STATEMENTS).chain([&ELSE]);
         all.find(|form| form.0.eq_ignore_ascii_case(keyword))

@@ -1,17 +1,17 @@
 //! The keywords that words of this language, misspelt ones and words of other languages stand for.
 
-use crate::declared::Nearest;
 use crate::forms::{DECLARATIONS, Form, STATEMENTS};
+use crate::names::Nearest;
 use std::alloc::{AllocError, Global};
 
-// The keyword of one of the forms that is this word, in upper or lower case; `None` where none is.
+// The keyword among those of the forms that equals this word, case ignored; `None` where none does.
 fn keyword_in(forms: &[Form], word: &str) -> Option<&'static str> {
     let form = forms.iter().find(|form| form.0.eq_ignore_ascii_case(word));
     form.map(|form| form.0)
 }
 
 /// The keyword nearest to a word, among those of the forms, the first of equally near ones; `None`
-/// where none is near, as [`near_distance`](crate::declared::near_distance) says.
+/// where none is near, as [`near_distance`](crate::names::near_distance) says.
 ///
 /// # Errors
 ///
@@ -42,8 +42,9 @@ pub fn declaration_keyword(word: &str) -> Option<&'static str> {
     })
 }
 
-// The word that rules have for a loop, an `else` or a `break` that begins with this word in some
-// language, as `elif` for `elseif`; `None` for any other word.
+// The word that stands for a loop or an `else` in the patterns of `rules::RULES`, where it begins
+// with this word in some language, as `elif` for `elseif`; for a `break`, the keyword `leave`.
+// `None` for any other word.
 fn control_keyword(word: &str) -> Option<&'static str> {
     Some(match word {
         "break" => "leave",
@@ -57,8 +58,8 @@ fn control_keyword(word: &str) -> Option<&'static str> {
 }
 
 /// The keyword for a statement that begins with this word, in this language or another one, as
-/// `load` for `read`; for a loop or an `else`, the word that rules have for it. `None` for any
-/// other word.
+/// `load` for `read`; for a loop or an `else`, the word that the patterns of `RULES` have for it.
+/// `None` for any other word.
 pub fn statement_keyword(word: &str) -> Option<&'static str> {
     Some(match word {
         "get" | "read" | "atomic_load" => "load",
@@ -77,9 +78,9 @@ pub fn statement_keyword(word: &str) -> Option<&'static str> {
     })
 }
 
-/// What is said of a word that begins a statement in other languages and none in this one, as
-/// `yield`, or of a `{` or `;` in place of a statement: what to do instead. `None` for anything
-/// else.
+/// What to do instead of a statement that begins with this word in other languages, and for which
+/// this one has no keyword, as `yield`; or what a `{` or `;` in place of a statement may mean.
+/// `None` for anything else, also for a word that a keyword stands for, as `load` for `read`.
 pub fn unsupported_hint(word: &str) -> Option<&'static str> {
     Some(match word {
         "sleep" | "yield" => "leave it out: a thread may be interrupted before each of its steps",

@@ -2,7 +2,7 @@
 //!
 //! - [`refusal::syntax_diagnostic`] and [`refusal::check_diagnostic`] answer a diagnostic whose
 //!   short form and place are those of the refusal.
-//! - [`declared::near_distance`] answers how many edits lead from one name to another, where they
+//! - [`names::near_distance`] answers how many edits lead from one name to another, where they
 //!   are few.
 //!
 //! A whole statement is proposed only where the language takes it in place of the wrong one. Which
@@ -10,11 +10,11 @@
 #![tactic(auto)]
 
 pub mod braces;
-pub mod declared;
 mod faults;
 mod forms;
 mod keywords;
 pub mod message;
+pub mod names;
 pub mod pieces;
 mod proposals;
 pub mod refusal;

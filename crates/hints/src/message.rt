@@ -14,7 +14,7 @@ pub struct Message {
 }
 
 impl Message {
-    /// A message with no note.
+    /// A message of this text, with no note.
     ///
     /// # Errors
     ///
@@ -31,7 +31,7 @@ impl Message {
         *self.notes.allocator()
     }
 
-    /// Adds a note on no place of the text.
+    /// Adds a note that has no place in the text of the guest.
     ///
     /// # Errors
     ///
@@ -40,7 +40,7 @@ impl Message {
         self.with_note_at(None, note)
     }
 
-    /// Adds a note on the bytes of a span, or, where that is `None`, on no place of the text.
+    /// Adds a note on the bytes of a span, or, where that is `None`, one without a place.
     ///
     /// # Errors
     ///

@@ -21,7 +21,7 @@ pub fn pieces<'a>(alloc: Global, text: &'a [u8]) -> Result<Vec<Piece<'a>>, Alloc
     Pieces::new(text).collect(alloc)
 }
 
-/// The bytes of a piece as a string; `?` instead if one of them is no visible ASCII character.
+/// The bytes of a piece as a string; `?` alone if one of them is no visible ASCII character.
 pub fn text_of(piece: &[u8]) -> &str {
     match from_utf8(piece) {
         Ok(text) if piece.iter().all(u8::is_ascii_graphic) => text,
@@ -77,7 +77,7 @@ pub fn is_first_in_line(pieces: &[Piece<'_>], index: usize) -> bool {
 
 /// The index of the `}` that closes the block whose `{` is at the index `open`; `None` where the
 /// block is never closed.
-pub fn closing_piece(pieces: &[Piece<'_>], open: usize) -> Option<usize> {
+pub fn closing_index(pieces: &[Piece<'_>], open: usize) -> Option<usize> {
     let first = open.checked_add(1)?;
     let inside = pieces::closing_brace(pieces.get(first..)?)?;
     first.checked_add(inside)

@@ -16,9 +16,9 @@ use std::alloc::{AllocError, Global};
 // Names for the new locals of a draft. A name that is in the text already isn't used.
 const LOCAL_NAMES: [&str; 8] = ["r", "s", "t", "u", "v", "w", "y", "z"];
 
-// Whether a word of a rule's pattern matches a word of the text: a placeholder, as `A`, each word
-// of its kind, as [`RULES`] says, and any other, as `=`, itself alone.
-fn is_match(site: FaultSite<'_>, placeholder: &str, word: &str) -> bool {
+// Whether `placeholder`, a word of a rule's pattern, matches a word of the text. A letter that
+// `RULES` explains, as `A`, matches a word of its kind at the site; any other, as `=`, only itself.
+fn is_word_match(site: FaultSite<'_>, placeholder: &str, word: &str) -> bool {
     let is_comparison = matches!(word, "==" | "!=" | "<" | "<=" | ">" | ">=");
     match placeholder {
         "X" => site.is_variable(word),
@@ -48,8 +48,8 @@ struct Draft<'a> {
 }
 
 impl<'a> Draft<'a> {
-    // The draft of a rule for a statement or declaration of these words; `None` where they don't
-    // match the rule's pattern.
+    // The draft of a rule `PATTERN -> TEMPLATE` for a statement or declaration of these words;
+    // `None` where they don't match the pattern, with one word for all copies of a placeholder.
     fn new(
         alloc: Global,
         site: FaultSite<'a>,
@@ -64,7 +64,7 @@ impl<'a> Draft<'a> {
             };
             let is_other = |(other, meaning): &(&str, &str)| *other == placeholder
                 && meaning != word;
-            if !is_match(site, placeholder, word) || meanings.iter().any(is_other) {
+            if !is_word_match(site, placeholder, word) || meanings.iter().any(is_other) {
                 return Ok(None);
             }
             meanings.push((placeholder, *word))?;
@@ -80,13 +80,13 @@ impl<'a> Draft<'a> {
             locals: 0,
             text,
         };
-        draft.write(template)?;
+        draft.write_template(template)?;
         Ok(Some(draft))
     }
 
     // A name for one more new local of the draft, one that isn't in the text; the word `LOCAL`
     // where there is no such name left.
-    fn new_local(&mut self) -> &'static str {
+    fn new_local_name(&mut self) -> &'static str {
         let pieces = self.site.pieces;
         let is_new = |name: &&str| !pieces.iter().any(|piece| piece.text == name.as_bytes());
         let local = LOCAL_NAMES.iter().copied().filter(is_new).nth(self.locals);
@@ -102,18 +102,19 @@ impl<'a> Draft<'a> {
             .map(|(_, word)| *word)
     }
 
-    // The word to write for a placeholder of the template; any other word of it stands for itself.
-    // For a variable where a value has to be written, it is a new local, and a `load` of the
-    // variable into that local is added to the draft. For `&&` it is `*`, and for `||` it is `+`.
-    fn expand(&mut self, placeholder: &'static str) -> Result<&'a str, AllocError> {
+    // What to write for a word of the template: for a placeholder the word that it was matched
+    // with, for `R` or `S` a new local, the same each time, and any other word as it is. Where a
+    // value has to be and a variable was matched, it is a new local, and a `load` of the variable
+    // into it is added to the draft. For a matched `&&` it is `*`, and for `||` it is `+`.
+    fn expand_word(&mut self, placeholder: &'static str) -> Result<&'a str, AllocError> {
         let word = self.word_for(placeholder).unwrap_or("");
         if matches!(placeholder, "A" | "B" | "C" | "E") && self.site.is_variable(word) {
-            let local = self.new_local();
+            let local = self.new_local_name();
             write!(self.text, "load {local} {word}; ")?;
             return Ok(local);
         }
         if word.is_empty() && matches!(placeholder, "R" | "S") {
-            let local = self.new_local();
+            let local = self.new_local_name();
             self.meanings.push((placeholder, local))?;
             return Ok(local);
         }
@@ -125,9 +126,9 @@ impl<'a> Draft<'a> {
         })
     }
 
-    // Adds to the draft what the template of a rule says to write, and before each statement the
-    // `load`s of the variables whose values it needs.
-    fn write(&mut self, template: &'static str) -> Result<(), AllocError> {
+    // Adds to the draft what the template of a rule, as `RULES` explains it, says to write, and
+    // before each statement the `load`s of the variables whose values it needs.
+    fn write_template(&mut self, template: &'static str) -> Result<(), AllocError> {
         let mut statement = String::new(*self.text.allocator());
         let begun = Form::with_keyword(self.word_for("H").unwrap_or(""));
         let is_block = begun.is_some_and(Form::has_block);
@@ -139,7 +140,7 @@ impl<'a> Draft<'a> {
                 "." | ";" => write!(self.text, "{statement}; ")?,
                 "{" => write!(self.text, "{statement} {{ ")?,
                 "~" => write!(statement, "{space}-")?,
-                _ => write!(statement, "{space}{}", self.expand(word)?)?,
+                _ => write!(statement, "{space}{}", self.expand_word(word)?)?,
             }
             is_close = matches!(word, "." | ";" | "{" | "~");
             if is_close && word != "~" {
@@ -150,14 +151,14 @@ impl<'a> Draft<'a> {
     }
 
     // A whole program to try the draft in: the text before the wrong statement or declaration, the
-    // draft, a `}` for each block that is open there, and all later threads without their
-    // statements.
+    // draft without its comment and each `..`, a `}` for each block that is open there, and all
+    // later threads without their statements.
     fn trial_program(&self) -> Result<String, AllocError> {
         let site = self.site;
         let (mut program, mut depth) = (String::new(*self.text.allocator()), 0_usize);
         for at in 0..site.start {
-            write!(program, "{} ", site.text(at))?;
-            depth = match site.text(at) {
+            write!(program, "{} ", site.piece(at))?;
+            depth = match site.piece(at) {
                 "{" => depth.saturating_add(1),
                 "}" => depth.saturating_sub(1),
                 _ => depth,
@@ -169,9 +170,9 @@ impl<'a> Draft<'a> {
         for _ in 0..depth {
             program.push('}')?;
         }
-        for at in site.end()..site.pieces.len() {
-            if site.text(at) == "thread" {
-                write!(program, " thread {} {{ }}", site.text(at.saturating_add(1)))?;
+        for i in site.end()..site.pieces.len() {
+            if site.piece(i) == "thread" {
+                write!(program, " thread {} {{ }}", site.piece(i.saturating_add(1)))?;
             }
         }
         Ok(program)
@@ -180,7 +181,7 @@ impl<'a> Draft<'a> {
     // Whether the draft's trial program is a program of the language. Where a block follows the
     // wrong statement or declaration, the draft has to have a block, too.
     fn is_accepted(&self) -> Result<bool, AllocError> {
-        if self.site.text(self.site.end()) == "{" && !self.text.contains("}") {
+        if self.site.piece(self.site.end()) == "{" && !self.text.contains("}") {
             return Ok(false);
         }
         let (program, alloc) = (self.trial_program()?, *self.text.allocator());
@@ -196,8 +197,10 @@ impl<'a> Draft<'a> {
 }
 
 impl Message {
-    /// Adds notes with what is proposed in place of the statement or declaration at the site. Where
-    /// no rule has a proposal, but there is a keyword, adds a note on how to write what it begins.
+    /// Adds notes with what `RULES` propose in place of the statement or declaration at the site:
+    /// for its words and then for these as an assignment, up to a proposal without a comment. Where
+    /// they propose nothing, but its first word stands for a keyword of the language, adds a note
+    /// on how to write what that keyword begins.
     ///
     /// # Errors
     ///

@@ -17,7 +17,7 @@ use guest_syntax::tree::Tree;
 use messages::message::{Diagnostic, Severity};
 use std::alloc::{AllocError, Global};
 
-// The place of a refusal of a text that spells no tree; the start of the text where memory ran out.
+// The place of an error of the parser; the start of the text where memory ran out.
 fn syntax_place(error: SyntaxError) -> Pos
     ensures { result ≡ syntax_place error }
 {
@@ -32,8 +32,8 @@ fn syntax_place(error: SyntaxError) -> Pos
     }
 }
 
-// The place of a refusal of a tree that is no program; `None` where it has no place. Where the code
-// of a thread is too long, it is that of the thread's name.
+// The place of the error for which a tree is no program; `None` where it has no place. Where the
+// code of a thread is too long, it is that of the thread's name; `None` where no such thread is.
 fn check_place(tree: &Tree, error: CheckError) -> Option<Pos>
     ensures { result ≡ check_place (tree_view tree.now) error }
 {
@@ -48,7 +48,8 @@ fn check_place(tree: &Tree, error: CheckError) -> Option<Pos>
     }
 }
 
-/// The diagnostic on why a text spells no tree.
+/// The diagnostic on a text that the parser refuses with this error: a refusal with the error as
+/// headline, and with a message on what to write instead.
 ///
 /// # Errors
 ///
@@ -68,7 +69,8 @@ pub fn syntax_diagnostic(
     Ok(message.into_diagnostic(Severity::Refusal, headline, Some(span_at(&pieces, at))))
 }
 
-/// The diagnostic on why a tree, which the text spells, is no program.
+/// The diagnostic on a text whose tree is no program, for this error: a refusal with the error as
+/// headline, and with a message on what to write instead. It has no span where the error has none.
 ///
 /// # Errors
 ///

@@ -1,7 +1,7 @@
 //! The place at which a text is refused, and what the text has round it.
 
 use crate::forms::{Form, Slot};
-use crate::pieces::{closing_piece, is_boundary, is_first_in_line, piece_index_at, text_of};
+use crate::pieces::{closing_index, is_boundary, is_first_in_line, piece_index_at, text_of};
 use guest_syntax::pieces::Piece;
 use guest_syntax::place::Pos;
 
@@ -18,7 +18,8 @@ pub struct FaultSite<'a> {
 }
 
 impl<'a> FaultSite<'a> {
-    /// The site of a place in the text that has these pieces.
+    /// The place at which the text of these pieces is refused, with the statement or declaration
+    /// that it is in, which begins after the last `;`, `{` or `}` before the place.
     pub fn new(pieces: &'a [Piece<'a>], place: Pos) -> FaultSite<'a> {
         let at = piece_index_at(pieces, place);
         let mut start = 0;
@@ -31,7 +32,7 @@ impl<'a> FaultSite<'a> {
     }
 
     /// The piece of the text at an index, as a string; an empty one past the last piece.
-    pub fn text(&self, index: usize) -> &'a str {
+    pub fn piece(&self, index: usize) -> &'a str {
         let piece = self.pieces.get(index);
         piece.map_or("", |piece| text_of(piece.text))
     }
@@ -39,13 +40,13 @@ impl<'a> FaultSite<'a> {
     /// What was found at the fault's place: the piece there, as a string; an empty one at the end
     /// of the text.
     pub fn found(&self) -> &'a str {
-        self.text(self.at)
+        self.piece(self.at)
     }
 
     /// The first piece of the statement or declaration with the fault, as a string: its keyword, or
     /// what is in the keyword's stead.
     pub fn keyword(&self) -> &'a str {
-        self.text(self.start)
+        self.piece(self.start)
     }
 
     /// The index of the first piece after the statement or declaration with the fault: a `;`, `{`
@@ -65,7 +66,7 @@ impl<'a> FaultSite<'a> {
         let form = Form::with_keyword(self.keyword())?;
         let mut places = 0;
         for at in self.start.saturating_add(1)..self.at {
-            match (self.text(at), form.slot(places)) {
+            match (self.piece(at), form.slot(places)) {
                 ("-", Some(Slot("VALUE" | "AMOUNT" | "OLD" | "NEW" | "NUMBER"))) => {}
                 _ => places = places.saturating_add(1),
             }
@@ -86,21 +87,21 @@ impl<'a> FaultSite<'a> {
 
     /// Whether the fault's place is in a block: one that is closed there, or later, or never.
     pub fn is_in_block(&self) -> bool {
-        let is_open = |open| closing_piece(self.pieces, open).is_none_or(|close| self.at <= close);
-        (0..self.at).any(|i| self.text(i) == "{" && is_open(i))
+        let is_open = |open| closing_index(self.pieces, open).is_none_or(|close| self.at <= close);
+        (0..self.at).any(|i| self.piece(i) == "{" && is_open(i))
     }
 
     /// Whether a variable with this name is declared before the faulty statement or declaration.
     pub fn is_variable(&self, name: &str) -> bool {
         let mut all = 1..self.start;
-        all.any(|i| self.text(i) == name && self.text(i.saturating_sub(1)) == "var")
+        all.any(|i| self.piece(i) == name && self.piece(i.saturating_sub(1)) == "var")
     }
 
     /// Whether a local has this name: somewhere in the text, the name follows the keyword of a
     /// statement that gives a local a value.
     pub fn is_local(&self, name: &str) -> bool {
         let mut all = 1..self.pieces.len();
-        let is_filling = |at: usize| matches!(self.text(at), "load" | "set" | "add" | "cas");
-        all.any(|i| self.text(i) == name && is_filling(i.saturating_sub(1)))
+        let is_setter = |at: usize| matches!(self.piece(at), "load" | "set" | "add" | "cas");
+        all.any(|i| self.piece(i) == name && is_setter(i.saturating_sub(1)))
     }
 }

@@ -1,6 +1,6 @@
-//! What is said of a text that spells no tree, beside the short form of its refusal.
+//! What is said of a text that doesn't parse, beside the short form of its refusal.
 
-use crate::braces::missing_brace;
+use crate::braces::find_open_block;
 use crate::forms::Slot;
 use crate::keywords::{declaration_keyword, statement_keyword, unsupported_hint};
 use crate::message::Message;
@@ -10,8 +10,8 @@ use guest_syntax::SyntaxError;
 use guest_syntax::limits::{DEPTH, NUMBER};
 use std::alloc::{AllocError, Global};
 
-/// What is wrong with a text that spells no tree, by its error and the error's site, and what to
-/// write instead. The message is empty where memory ran out, which is no fault of the text.
+/// The message on a text that the parser refuses with this error: what is wrong at its site, and
+/// what to write instead. It is empty where memory ran out, which is no fault of the text.
 ///
 /// # Errors
 ///
@@ -27,8 +27,8 @@ pub fn syntax_message(
         SyntaxError::BadChar(_) => Message::new(alloc, bad_byte_text(site))?.with_proposals(site),
         SyntaxError::Expected(_) if site.start < site.at => in_statement_message(alloc, site),
         SyntaxError::Expected(_) if site.is_in_block() => in_block_message(alloc, site),
-        SyntaxError::Expected(_) => outside_message(alloc, site),
-        SyntaxError::NumberTooBig(_) => too_big_message(alloc, site),
+        SyntaxError::Expected(_) => outside_block_message(alloc, site),
+        SyntaxError::NumberTooBig(_) => number_too_big_message(alloc, site),
         SyntaxError::TooLong(_) => Message::new(alloc, "the text has more than 65,536 bytes"),
         SyntaxError::TooDeep(_) => {
             let deep = format_args!("at most {DEPTH} blocks lie round a block");
@@ -48,10 +48,11 @@ fn not_ascii_text(text: &[u8]) -> &'static str {
     }
 }
 
-// What is said of the byte at the site, with which no token begins.
+// What is said of the byte at the site, with which no token begins: what this language lacks,
+// where the byte is part of other languages.
 fn bad_byte_text(site: FaultSite<'_>) -> &'static str {
     let is_outside = !site.is_in_block();
-    match (site.found(), site.text(site.at.saturating_add(1))) {
+    match (site.found(), site.piece(site.at.saturating_add(1))) {
         ("(" | ")", _) => "there are no parentheses",
         (",", _) if site.keyword() == "thread" => "each thread has one name and a block of its own",
         (",", _) if is_outside => "there are no commas: each name has a declaration of its own",
@@ -59,7 +60,7 @@ fn bad_byte_text(site: FaultSite<'_>) -> &'static str {
         (":", _) if is_outside && site.keyword() != "thread" => {
             "a declaration has no type: all values are numbers"
         }
-        (".", _) if is_number(site.text(site.at.saturating_sub(1))) =>
+        (".", _) if is_number(site.piece(site.at.saturating_sub(1))) =>
             "numbers are whole: no point is in them",
         ("&", "&") | ("|", "|") => "one operator a statement, and none of these",
         ("&" | "|" | "^" | "~", _) => "there are no operators on bits",
@@ -72,8 +73,9 @@ fn bad_byte_text(site: FaultSite<'_>) -> &'static str {
     }
 }
 
-// The message on a number that is too large: which numbers may be there, or the greatest of all.
-fn too_big_message(alloc: Global, site: FaultSite<'_>) -> Result<Message, AllocError> {
+// The message on a number that is too large: which numbers a count or a `repeat` may have, or
+// elsewhere the greatest number of the language.
+fn number_too_big_message(alloc: Global, site: FaultSite<'_>) -> Result<Message, AllocError> {
     match site.slot() {
         Some(slot @ Slot("COUNT" | "TIMES")) => {
             Message::new(alloc, format_args!("{slot} was expected"))
@@ -82,10 +84,11 @@ fn too_big_message(alloc: Global, site: FaultSite<'_>) -> Result<Message, AllocE
     }
 }
 
-// The message on a token outside all blocks that begins neither a declaration nor a thread.
-fn outside_message(alloc: Global, site: FaultSite<'_>) -> Result<Message, AllocError> {
+// The message on a token outside all blocks that begins neither a thread nor, if no thread comes
+// before it, a declaration: what was expected, and notes on what seems wrong or is meant.
+fn outside_block_message(alloc: Global, site: FaultSite<'_>) -> Result<Message, AllocError> {
     let found = site.found();
-    let is_late = (0..site.at).any(|i| site.text(i) == "thread");
+    let is_late = (0..site.at).any(|i| site.piece(i) == "thread");
     let said = match (found, is_late) {
         ("}", _) => "this `}` closes no block: is one too many, or a `{` missing?",
         (_, true) => "`thread` was expected",
@@ -104,7 +107,7 @@ fn outside_message(alloc: Global, site: FaultSite<'_>) -> Result<Message, AllocE
 }
 
 // The message on a token in a block, or on the end of the text there, where a statement or a `}`
-// has to be.
+// has to be: what is wrong, and notes on what to write or do instead.
 fn in_block_message(alloc: Global, site: FaultSite<'_>) -> Result<Message, AllocError> {
     let found = site.found();
     if let Some(text) = unsupported_hint(found) {
@@ -120,13 +123,13 @@ fn in_block_message(alloc: Global, site: FaultSite<'_>) -> Result<Message, Alloc
     }
 }
 
-// What is said of a token in a block that begins no statement, where one has to begin.
+// What is said of a token that begins no statement, in a block where a statement has to begin.
 fn no_statement_text(site: FaultSite<'_>) -> &'static str {
     let next = site.at.saturating_add(1);
     match (
         site.found(),
-        site.text(next),
-        site.text(next.saturating_add(1)),
+        site.piece(next),
+        site.piece(next.saturating_add(1)),
     ) {
         ("mutex" | "cond" | "sem", _, _) => "all declarations come before the first thread",
         ("else", _, _) => "`else` comes right after the `}` of an `if`",
@@ -143,15 +146,15 @@ fn no_statement_text(site: FaultSite<'_>) -> &'static str {
 // to be: which block's `}` seems to be missing, or else that no thread is inside another.
 fn open_block_message(alloc: Global, site: FaultSite<'_>) -> Result<Message, AllocError> {
     let message = Message::new(alloc, "a statement or `}` was expected")?;
-    match missing_brace(site.pieces, site.at) {
+    match find_open_block(site.pieces, site.at) {
         Some(open) => message.with_note_at(Some(span_at(site.pieces, open.at)), open),
         None => message.with_note("threads stand beside each other, and none is inside another"),
     }
 }
 
 // The message on a wrong token within a statement or a declaration, or on the end of the text
-// there: what was expected, and whether a `;` seems to be missing before it, or what to write
-// instead.
+// there: what was expected (a `;` where its form is over or unknown), and a note that a `;` seems
+// missing before it, or what to write instead.
 fn in_statement_message(alloc: Global, site: FaultSite<'_>) -> Result<Message, AllocError> {
     let slot = site.slot().unwrap_or(Slot(";"));
     let other = match (slot, site.keyword()) {

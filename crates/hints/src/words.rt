@@ -8,15 +8,17 @@ use crate::site::FaultSite;
 use std::alloc::{AllocError, Global};
 
 impl<'a> FaultSite<'a> {
-    // Adds to `words` what the piece at index `at` says in this language. Of other languages, `and`
-    // becomes `&&`, `true` becomes `1`, `not x` becomes `x == 0`, and `x.load` becomes `load x`.
-    // Parentheses, commas, the types of variables and memory orders add nothing.
-    fn push_word(self, words: &mut Vec<&'a str>, at: usize) -> Result<(), AllocError> {
-        let (before, word) = (self.text(at.saturating_sub(1)), self.text(at));
+    // Translates the piece at index `at`, of this language or another one, and adds to `words` what
+    // it says in this one: at the start of a statement or after its `=` a keyword, if it stands for
+    // one. `and` becomes `&&`, `true` becomes `1`, `not x` becomes `x == 0`, and the `=` of an `if`
+    // becomes `==`. For the `load` of `x.load`, the `x` in `words` becomes `load x`; for a second
+    // `&`, the first becomes `&&`. Parentheses, commas, types and memory orders add nothing.
+    fn translate_piece(self, words: &mut Vec<&'a str>, at: usize) -> Result<(), AllocError> {
+        let (before, word) = (self.piece(at.saturating_sub(1)), self.piece(at));
         match (before, word) {
             (_, "(" | ")" | "," | "." | ":" | "unwrap" | "is_ok" | "SeqCst" | "Ordering") => {}
             ("(" | ",", "&") => {}
-            (":", _) if word != "=" && self.text(at.saturating_sub(2)) != ":" => {}
+            (":", _) if word != "=" && self.piece(at.saturating_sub(2)) != ":" => {}
             (".", _) if is_name(word) => {
                 let object = words.pop();
                 words.push(statement_keyword(word).unwrap_or(word))?;
@@ -29,7 +31,7 @@ impl<'a> FaultSite<'a> {
             (_, "and") => words.push("&&")?,
             (_, "or") => words.push("||")?,
             ("!" | "not", _) if is_name(word) => words.extend_from_slice(&[word, "==", "0"])?,
-            (_, "!" | "not") if is_name(self.text(at.saturating_add(1))) => {}
+            (_, "!" | "not") if is_name(self.piece(at.saturating_add(1))) => {}
             (_, "=") if matches!(self.keyword(), "if" | "assert") => words.push("==")?,
             (_, "true") => words.push("1")?,
             (_, "false" | "null" | "NULL" | "None") => words.push("0")?,
@@ -42,7 +44,8 @@ impl<'a> FaultSite<'a> {
     }
 
     /// The words of the statement at the site in this language: keywords and operators of other
-    /// languages are translated, and a misspelt keyword is replaced by the nearest one.
+    /// languages are translated, and a first word that is no keyword is replaced by the nearest
+    /// one, if one is near and no `=`, `+`, `-` or `*` is next, as in an assignment.
     ///
     /// # Errors
     ///
@@ -51,14 +54,14 @@ impl<'a> FaultSite<'a> {
         let mut words = Vec::new(alloc);
         let end = self.end();
         // a `while` whose block is one `load` is taken with its block, for the rules on waiting
-        let end = match (self.keyword(), self.text(end.saturating_add(1))) {
-            ("while", "load") if self.text(end.saturating_add(5)) == "}" => end.saturating_add(6),
+        let end = match (self.keyword(), self.piece(end.saturating_add(1))) {
+            ("while", "load") if self.piece(end.saturating_add(5)) == "}" => end.saturating_add(6),
             _ => end,
         };
         for at in self.start..end {
             // the `int` or `let` of a local is left out, since a local isn't declared
-            if !words.is_empty() || declaration_keyword(self.text(at)) != Some("var") {
-                self.push_word(&mut words, at)?;
+            if !words.is_empty() || declaration_keyword(self.piece(at)) != Some("var") {
+                self.translate_piece(&mut words, at)?;
             }
         }
         let first = words.first().copied().unwrap_or("");
@@ -73,7 +76,7 @@ impl<'a> FaultSite<'a> {
     }
 
     /// The words of the declaration at the site in this language, or of a thread up to its `{`. The
-    /// first is the keyword that seems meant; an empty word where none is near.
+    /// first is the keyword that seems meant, or an empty word where none is near.
     ///
     /// # Errors
     ///
@@ -81,12 +84,12 @@ impl<'a> FaultSite<'a> {
     pub fn declaration_words(self, alloc: Global) -> Result<Vec<&'a str>, AllocError> {
         let (mut words, mut kind) = (Vec::new(alloc), None);
         for at in self.start..self.end() {
-            match declaration_keyword(self.text(at)) {
+            match declaration_keyword(self.piece(at)) {
                 Some(keyword) if words.is_empty() => kind = Some(keyword),
-                _ => self.push_word(&mut words, at)?,
+                _ => self.translate_piece(&mut words, at)?,
             }
         }
-        let is_thread = self.text(self.end()) == "{";
+        let is_thread = self.piece(self.end()) == "{";
         let keyword = match (kind, words.as_slice()) {
             (Some("var"), _) | (None, [_]) if is_thread => "thread",
             (Some(keyword), _) => keyword,
@@ -104,8 +107,8 @@ impl<'a> FaultSite<'a> {
 }
 
 /// The words of a statement, brought to the form `x = 1` or `x = x + 1` where it gives `x` a value:
-/// by `load`, `store` or `set`, by an operator as `+=`, or by `++` or `--`. Other words stay as
-/// they are.
+/// by `load`, `store` or `set`, by an operator as `+=`, or by `++` or `--`. The words of any other
+/// statement as they are.
 ///
 /// # Errors
 ///

@@ -1,4 +1,4 @@
-//! Items of a search: each stands for the complete schedules that begin with its prefix.
+//! Items of a search: each stands for complete schedules that begin with its prefix.
 
 ghost use Rattle.std.specs.Prelude.{◌≡◌, ◌++◌, ◌∷◌, [], ◌↔◌, IfOk, IfErr, OnOk, OnErr, IsTrue, MatchResult};
 ghost use Rattle.std.specs.Arc.{arc_value};
@@ -14,7 +14,8 @@ use std::alloc::{AllocError, Global};
 use std::marker::Model;
 use std::sync::Arc;
 
-/// A program, a prefix that runs in it, and the threads that sleep after the prefix.
+/// A program, a prefix that runs in it, and the threads that sleep after the prefix. It stands for
+/// complete schedules that begin with the prefix.
 #[derive(Drop)]
 pub struct Item {
     program: Arc<Program>,
@@ -33,7 +34,7 @@ impl Model for Item {
 }
 
 impl Item {
-    /// The item of all schedules of a program.
+    /// The item of all schedules of a program: that of the empty prefix.
     ///
     /// # Errors
     ///
@@ -48,11 +49,12 @@ impl Item {
         })
     }
 
-    /// The item of the schedules that begin with a prefix.
+    /// The item of the schedules that begin with a prefix, which is replayed to see that it runs.
+    /// No thread sleeps after it.
     ///
     /// # Errors
     ///
-    /// `NoSuchThread` or `NotEnabled` with the first place of the prefix at which no step can be
+    /// `NoSuchThread` or `NotEnabled` with the first index in the prefix at which no step can be
     /// taken, `OutOfMemory` where memory runs out.
     pub fn at(alloc: Global, program: Arc<Program>, prefix: &[u8]) -> Result<Item, ReplayError>
         ensures item { IfOk result (λ i. i ≡ item_at (arc_value program) prefix.now) }
@@ -68,7 +70,8 @@ impl Item {
         })
     }
 
-    /// The item of the schedules that begin with a prefix that is known to run and isn't replayed.
+    /// The item of the schedules that begin with a prefix that is known to run, and isn't replayed.
+    /// No thread sleeps after it.
     ///
     /// # Errors
     ///
@@ -85,7 +88,8 @@ impl Item {
         })
     }
 
-    /// Whether two items are of equal programs and have equal prefixes and masks.
+    /// Whether two items are equal: of equal programs, with equal prefixes and masks of threads
+    /// that sleep.
     pub fn equals(&self, other: &Item) -> bool
         ensures { IsTrue result ↔ (self.now ≡ other.now) }
     {
@@ -94,7 +98,7 @@ impl Item {
             && self.program.is_same(&other.program)
     }
 
-    /// An equal item, of the same program.
+    /// An equal item, which shares the program.
     ///
     /// # Errors
     ///
@@ -113,7 +117,8 @@ impl Item {
     }
 
     /// Makes this the item of the schedules of the same program that begin with another prefix,
-    /// which is known to run. The memory of the old prefix serves the new one.
+    /// which is known to run. No thread sleeps after it. It is written over the old prefix, once
+    /// there is room for it.
     ///
     /// # Errors
     ///
@@ -131,7 +136,8 @@ impl Item {
         Ok(())
     }
 
-    /// The same program's item after `steps` and a step of `thread`; those of `mask` sleep there.
+    /// An item of the same program: its prefix, which is known to run, is `steps` and then a step
+    /// of `thread`, after which the threads of `mask` sleep.
     ///
     /// # Errors
     ///
@@ -171,14 +177,14 @@ impl Item {
         &self.program
     }
 
-    /// The program that the item is of, to be shared further.
+    /// The program that the item is of, to be shared with other items.
     pub fn shared_program(&self) -> &Arc<Program>
         ensures { arc_value result.now ≡ self.now.program }
     {
         &self.program
     }
 
-    /// The steps that each of the item's schedules begins with.
+    /// The steps, as thread numbers, that each of the item's schedules begins with.
     pub fn prefix(&self) -> &[u8]
         ensures prefix { result.now ≡ self.now.prefix }
         ensures runs { IsItem self.now }
@@ -194,7 +200,8 @@ impl Item {
     }
 }
 
-/// Whether two masks have the same threads.
+/// Whether two masks have the same threads, as `==` has it; a function, so that callers' proofs
+/// have its contract.
 pub fn same_masks(first: Mask, second: Mask) -> bool
     ensures { IsTrue result ↔ (first ≡ second) }
 {

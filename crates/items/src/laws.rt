@@ -20,8 +20,9 @@ use crate::limits::BOUND;
 
 // Items.
 
-/// The item of all schedules has all that are within the bound, and goes beyond it where one of
-/// all does; pruned, it has what sleep sets leave where no thread sleeps.
+/// The root item of a program has all complete schedules that are within the bound, and goes beyond
+/// it where one has more preemptions. In the mode `Reduced` it has the schedules that sleep sets
+/// leave where no thread sleeps at the start.
 pub fn root_has_all()
     ensures set { (p : Program) (bound : ℕ) → schedules_of (Bounded bound) (root_of p) ≡
         filter (λ w. nat_le (preemptions p w) bound) (complete_schedules p (start p)) }
@@ -31,9 +32,10 @@ pub fn root_has_all()
         schedules_of Reduced (root_of p) ≡ reduced_schedules p (start p) none_asleep }
 {}
 
-/// Within a bound an item has the complete schedules that begin with its prefix and whose
-/// preemptions are within the bound; pruned, those that sleep sets leave after its prefix. Either
-/// are in order and each once. An item goes beyond the bound where a complete one has more.
+/// At a bound, an item has the complete schedules that begin with its prefix and whose preemptions
+/// are within the bound; in the mode `Reduced`, its prefix followed by each that sleep sets leave
+/// there. In both modes its schedules are in order, each once. An item goes beyond the bound where
+/// a complete schedule that begins with its prefix has more preemptions.
 pub fn items_have_their_schedules()
     ensures members { (i : ItemView) (bound : ℕ) (w : List ℕ) →
         Contains (schedules_of (Bounded bound) i) w ↔
@@ -57,35 +59,35 @@ pub fn prefix_past_the_bound()
 
 // Walks.
 
-/// The sum of a walked item is its part joined with the sums of the rest.
+/// The sum of a walked item is that of what the walk tried joined with those of the items it left.
 pub fn part_and_rest_join()
     ensures { (w : WalkView) → IsWalked w →
         item_sum w.mode w.item ≡ join w.part (item_sums w.mode w.rest) }
 {}
 
-/// What was tried are the item's schedules that begin with no prefix of the rest.
+/// The schedules that a walk tried are those of its item that begin with no left item's prefix.
 pub fn tried_are_under_none()
     ensures { (w : WalkView) (v : List ℕ) → Contains (tried_by w) v ↔
         (Contains (schedules_of w.mode w.item) v ×
         All (λ r. begins_with r.prefix v ≡ false) w.rest) }
 {}
 
-/// Each item of the rest has those of the walked item's schedules that begin with its prefix.
+/// Each item that a walk left has those of the walked item's schedules that begin with its prefix.
 pub fn rest_has_its_schedules()
     ensures { (w : WalkView) → IsWalked w → All (λ r. schedules_of w.mode r ≡
         filter (begins_with r.prefix) (schedules_of w.mode w.item)) w.rest }
 {}
 
-/// No schedule begins with the prefixes of two items of the rest and of what was put off, at
-/// different places.
-pub fn none_is_under_two()
+/// No schedule begins with the prefixes of two of the items that a walk left or put off.
+pub fn no_schedule_is_under_two_items()
     ensures { (w : WalkView) (v : List ℕ) (i j : ℕ) (d : ItemView) →
         IsWalked w → i < j → j < length (w.rest ++ w.deferred) →
         begins_with (slice_index_or (w.rest ++ w.deferred) i d).prefix v ≡ true →
         begins_with (slice_index_or (w.rest ++ w.deferred) j d).prefix v ≡ false }
 {}
 
-/// Counted in full, the walked item has the schedules that were tried and those of the rest.
+/// A walked item has as many schedules as the walk tried plus as many as the items that it left
+/// have. Those that were tried are counted up to the greatest `u64`.
 pub fn counts_add_up()
     ensures counts { (w : WalkView) → IsWalked w → length (schedules_of w.mode w.item) ≡
         length (tried_by w) + schedule_count w.mode w.rest }
@@ -94,7 +96,7 @@ pub fn counts_add_up()
         length (schedules_of w.mode w.item) ≡ w.part.tried + schedule_count w.mode w.rest }
 {}
 
-/// What was tried comes before all that is left.
+/// The schedules that a walk tried come before all those of the items that it left.
 pub fn tried_come_first()
     ensures { (w : WalkView) (v u : List ℕ) → IsWalked w → Contains (tried_by w) v →
         Contains (schedules_of w.mode w.item) u → is_under w.rest u ≡ true → precedes v u ≡ true }
@@ -102,24 +104,25 @@ pub fn tried_come_first()
 
 // What a bound puts off.
 
-/// What was left and what was put off lies under the walked item: it is of the same program, runs
-/// in that, and begins with the walked item's prefix.
+/// The items that a walk left or put off lie under the walked item: they are of the same program,
+/// and their prefixes run in it and begin with the walked item's.
 pub fn rest_and_deferred_lie_under_the_item()
     ensures { (w : WalkView) → IsWalked w → All (IsBelow w.item) (w.rest ++ w.deferred) }
 {}
 
-/// Of all complete schedules that begin with the item's prefix, whatever their preemptions, each
-/// is counted in the part or lies under one of the rest or of what was put off: the sums add up in
-/// full.
+/// The full sum of a walked item, that of all complete schedules that begin with its prefix, is the
+/// sum of what was tried joined with the full sums of the items left and put off. This holds at a
+/// bound that the item's prefix doesn't exceed.
 pub fn full_sums_join()
     ensures { (w : WalkView) (bound : ℕ) → IsWalked w → w.mode ≡ Bounded bound →
         preemptions w.item.program w.item.prefix ≤ bound →
         full_sum w.item ≡ join (with_beyond w.part false) (full_sums (w.rest ++ w.deferred)) }
 {}
 
-/// Each of the item's schedules past the bound lies under an item of the rest or of what was put
-/// off. The rest is within the bound; what was put off is past the bound by its last step alone.
-pub fn what_is_past_is_kept()
+/// Where a walked item's prefix is within the bound, each complete schedule past it that begins
+/// with the prefix lies under an item left or put off. The prefixes of the items left are within
+/// the bound; those of the items put off are past it by their last step alone.
+pub fn past_the_bound_is_left_or_deferred()
     ensures all { (w : WalkView) (bound : ℕ) → IsWalked w → w.mode ≡ Bounded bound →
         HasAllPast bound w.item (w.rest ++ w.deferred) }
     ensures within { (w : WalkView) (bound : ℕ) → IsWalked w → w.mode ≡ Bounded bound →
@@ -128,7 +131,8 @@ pub fn what_is_past_is_kept()
         All (IsDeferred bound) w.deferred }
 {}
 
-/// Where schedules are pruned there is no bound: nothing is put off, and nothing is beyond.
+/// In the mode `Reduced`, which prunes schedules, there is no bound: a walk puts nothing off, and
+/// notes no schedule beyond a bound.
 pub fn pruned_walks_put_off_nothing()
     ensures deferred { (w : WalkView) → IsWalked w → w.mode ≡ Reduced → w.deferred ≡ [] }
     ensures beyond { (w : WalkView) → IsWalked w → w.mode ≡ Reduced → w.part.beyond ≡ false }
@@ -136,7 +140,7 @@ pub fn pruned_walks_put_off_nothing()
 
 // Limits.
 
-/// The greatest bound that a search is asked for.
-pub fn greatest_bound_is()
+/// `BOUND`, the greatest bound that a search can be asked for, is 64.
+pub fn greatest_bound_is_64()
     ensures { BOUND ≡ 64 }
 {}

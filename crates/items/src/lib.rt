@@ -3,10 +3,10 @@
 //! - An [`item::Item`] stands for the complete schedules that begin with a prefix that runs; a
 //!   [`mode::Mode`] says which of them a search tries.
 //! - [`laws`] says of the definitions what walks and books rest on: which schedules an item has,
-//!   and that the part that a walk tried, the items that it left and what its bound put off lose
-//!   none and have none twice.
+//!   and that what a walk tried, the items that it left and those that its bound put off lose no
+//!   schedule and have none twice.
 //!
-//! No program is walked here: that does the crate `walk`.
+//! No program is walked here: the crate `walk` does that.
 #![tactic(auto)]
 
 pub mod item;

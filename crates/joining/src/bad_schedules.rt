@@ -18,7 +18,8 @@ use std::alloc::Global;
 ///
 /// # Errors
 ///
-/// `Untrue` with the first such part's prefix and bound, `OutOfMemory` where memory runs out.
+/// `Untrue` with the prefix and the bound of the first part whose schedule is wrong, `OutOfMemory`
+/// where memory runs out.
 pub fn check_schedules(alloc: Global, program: &Program, parts: &[Part]) -> Result<(), JoinError>
     ensures all { OnOk result (All (IsTrue program.now) parts.now) }
     ensures error { (search : Search) →
@@ -55,7 +56,7 @@ fn is_truthful(alloc: Global, program: &Program, part: &Part) -> Result<bool, Jo
     }
 }
 
-// Whether a run is complete and ends badly, and its schedule is within the bound.
+// Whether a run is complete and ends badly, and its schedule is within the bound, if there is one.
 fn is_bad_within(run: &Run, bound: Option<u32>) -> bool
     ensures { result ≡ is_bad_run run.now bound }
 {
@@ -65,7 +66,7 @@ fn is_bad_within(run: &Run, bound: Option<u32>) -> bool
     }
 }
 
-// Whether a schedule with this number of preemptions is within the bound; true where there is none.
+// Whether a schedule with this number of preemptions is within the bound; true without a bound.
 fn is_within_bound(bound: Option<u32>, preemptions: usize) -> bool
     ensures { result ≡ is_within_bound bound preemptions }
 {

@@ -44,8 +44,9 @@ impl<'a> PartsByPrefix<'a> {
         Ok(PartsByPrefix { parts, by_prefix })
     }
 
-    /// The first part that answers for a prefix at a bound: that says what is under the prefix
-    /// there, and wasn't cut short. `None` where no part does.
+    /// The first part that says what is under a prefix at a bound, and wasn't cut short: one of
+    /// this bound, or of a lesser one if what it found holds at this bound, too. `None` where there
+    /// is none.
     pub fn part_at(&self, under: &[u8], bound: Option<u32>) -> Option<&'a Part>
         ensures some { IfSome result (λ x.
             Contains self.now.parts.now x.now × Tells under.now bound x.now) }
@@ -62,13 +63,13 @@ impl<'a> PartsByPrefix<'a> {
         None
     }
 
-    /// Refuses the parts where two of one prefix and bound that weren't cut short have different
-    /// summaries.
+    /// Refuses the parts where two of the same prefix and bound, neither of them cut short, have
+    /// different summaries.
     ///
     /// # Errors
     ///
-    /// `Disagree` with the prefix and the bound of the first such part, `OutOfMemory` where memory
-    /// runs out.
+    /// `Disagree` with the prefix and the bound of the first part with which another disagrees,
+    /// `OutOfMemory` where memory runs out.
     pub fn check_agreement(&self, alloc: Global) -> Result<(), JoinError>
         ensures agree { OnOk result ((place : PartPlace) → AreApart self.now.parts.now place → ⊥) }
         ensures error { (p : Program) (search : Search) →
@@ -113,8 +114,9 @@ fn answers_for(part: &Part, under: &[u8], bound: Option<u32>) -> bool
         && (part.level.bound == bound || holds_at(&part.level, bound))
 }
 
-// Whether what a level found at its bound is all that there is at `bound`, too: its own bound is no
-// greater, no schedule was beyond its own, and none was bad. False where either bound is `None`.
+// Whether what a level found at its bound is all that there is at `bound`, too: the level's bound
+// is no greater, no schedule was beyond it, and none was bad, which would have ended the search
+// there. False where either bound is `None`.
 fn holds_at(level: &Level, bound: Option<u32>) -> bool
     ensures { Decides result (IsSettled bound level.now) }
 {
@@ -125,7 +127,7 @@ fn holds_at(level: &Level, bound: Option<u32>) -> bool
 }
 
 /// Whether some part of this place, a prefix and a bound, was cut short.
-pub fn is_cut_short(parts: &[Part], place: &PartPlace) -> bool
+pub fn any_cut_short(parts: &[Part], place: &PartPlace) -> bool
     ensures { result ≡ true → (x : Part) × Contains parts.now x × IsOfPlace place.now x
         × (x.level.cause ≢ None) }
 {
@@ -168,7 +170,7 @@ fn same_summaries(first: &Summary, second: &Summary) -> bool
         && same_ends(first.ends(), second.ends())
 }
 
-// Whether two lists of end views are equal, in their order, too.
+// Whether two lists have equal end views in the same order.
 fn same_ends(first: &[EndView], second: &[EndView]) -> bool
     ensures { Decides result (first.now ≡ second.now) }
 {

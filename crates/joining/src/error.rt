@@ -83,7 +83,7 @@ impl JoinError {
     }
 }
 
-// A prefix in its printed spelling, with words before and after it.
+// A prefix in its printed spelling, between the words `before` and the words `after`.
 fn prefix_phrase(
     alloc: Global,
     before: &[u8],
@@ -127,7 +127,8 @@ impl From<CoverError> for JoinError {
 
     ghost from_gives = { λ e error. error ≡ of_cover e };
 
-    // What is wrong with the parts where their prefixes are no cover: the variant of the same name.
+    // The variant of the same name: what is wrong with the parts' prefixes, which are no cover, or
+    // that memory ran out.
     fn from(error: CoverError) -> JoinError {
         match error {
             CoverError::Missing(prefix) => JoinError::Missing(prefix),

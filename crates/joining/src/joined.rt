@@ -12,7 +12,7 @@ ghost use Rattle.joining.specs.Parts.{AreHonest, AreApart, IsTrue, Tells, JoinEr
 ghost use Rattle.joining.specs.inner.Sums.{TellSums, IsFirstOfPart, GoesOnAt};
 
 use crate::bad_schedules::check_schedules;
-use crate::by_prefix::{PartsByPrefix, is_cut_short};
+use crate::by_prefix::{PartsByPrefix, any_cut_short};
 use crate::error::{JoinError, PartPlace};
 use cover::cover_by;
 use guest_code::program::Program;
@@ -35,17 +35,17 @@ struct Joining<'a, 'p> {
     items: &'a [Item],
 }
 
-/// The report of a search of the program, from parts of the search: where the summary of each part
-/// is that of all schedules under its prefix at its bound, the report is one that a search of the
-/// whole program may give. That the parts are of this program isn't tested: the guests that they
-/// name aren't looked at. A part where nothing is beyond its bound and nothing is bad stands for
-/// each greater bound, too; a part that was cut short is never used. Where two parts of one prefix
-/// and bound that weren't cut short have different summaries, all are refused, even if the report
-/// needs neither.
+/// The report of a search of the program, from parts of the search: where each part that wasn't cut
+/// short has the summary of all that is under its prefix at its bound, the report is one that a
+/// search of the whole program may give. That the parts are of this program isn't tested: the
+/// guests that they name aren't looked at. A part where nothing is beyond its bound and nothing is
+/// bad stands for each greater bound, too; the summary of a part that was cut short isn't joined.
+/// Where two parts of one prefix and bound that weren't cut short have different summaries, all are
+/// refused, even if the report needs neither.
 ///
 /// # Errors
 ///
-/// What is missing or wrong with the parts; `OutOfMemory` where memory runs out.
+/// What is missing, or what is wrong with the parts; `OutOfMemory` where memory runs out.
 pub fn join(
     alloc: Global,
     program: &Arc<Program>,
@@ -81,15 +81,15 @@ pub fn join(
             }
         }
     }
+    // A search goes on to no bound after its last, and one without a bound to none at all.
     match joining.report_at(alloc, last)? {
         Some(report) => Ok(report),
         None => unreachable!(),
     }
 }
 
-// The prefixes of the parts that can be of a search, in the parts' order: of those with a bound
-// where the search has one, else of those without. A prefix is listed once for each part that has
-// it.
+// The prefixes of the parts that a search can use, in the parts' order: those with a bound where
+// the search has one, else those without. A prefix is listed once for each part that has it.
 fn prefixes_for<'a>(
     alloc: Global,
     search: Search,
@@ -107,8 +107,9 @@ fn prefixes_for<'a>(
 }
 
 impl Joining<'_, '_> {
-    // The report of the search, if the search ends at this bound: at its last one, or where a
-    // schedule is bad, or none is beyond the bound. `None` where it goes on to the next bound.
+    // The report of the search, if it ends at this bound: the bound is its last, or a schedule is
+    // bad, or none is beyond the bound. `None` where the search goes on to the next bound. An error
+    // where no part says what is under an item's prefix at this bound.
     fn report_at(&self, alloc: Global, bound: Option<u32>) -> Result<Option<Report>, JoinError>
         requires of { IsModeOf self.now.search (mode_at bound) }
         requires schedules { All (IsTrue self.now.program.now) self.now.parts.now.parts.now }
@@ -131,8 +132,8 @@ impl Joining<'_, '_> {
         }
     }
 
-    // The summary of the whole program at a bound: for each item that of the part for its prefix,
-    // all joined. An error where an item has no such part.
+    // The summary of the whole program at a bound: the summaries of the parts for the items'
+    // prefixes, joined. An error where no part says what is under one of the prefixes.
     fn sum_at(&self, alloc: Global, bound: Option<u32>) -> Result<Summary, JoinError>
         requires of { IsModeOf self.now.search (mode_at bound) }
         requires listed { All (λ i. Contains
@@ -152,8 +153,9 @@ impl Joining<'_, '_> {
         Ok(sum)
     }
 
-    // The first part that answers for an item's prefix at a bound: that says what is under it
-    // there, and wasn't cut short. `Cut` or `Lacks` where there is none.
+    // The first part that says what is under an item's prefix at a bound, and wasn't cut short.
+    // Where there is none, the error `Cut` if a part of this prefix and bound was cut short, else
+    // `Lacks`.
     fn part_for(&self, alloc: Global, item: &Item, bound: Option<u32>) -> Result<&Part, JoinError>
         requires of { IsModeOf self.now.search (mode_at bound) }
         requires listed { Contains (prefixes_for self.now.search self.now.parts.now.parts.now)
@@ -170,8 +172,8 @@ impl Joining<'_, '_> {
     }
 }
 
-// The error where no part says what is under a prefix at a bound and wasn't cut short: `Cut` where
-// a part of this prefix and bound was, else `Lacks`.
+// The error where only parts that were cut short, or none, say what is under a prefix at a bound:
+// `Cut` where a part of this prefix and bound was cut short, else `Lacks`.
 fn no_part_error(
     alloc: Global,
     parts: &[Part],
@@ -187,7 +189,7 @@ fn no_part_error(
         under: prefix.to_vec(alloc)?,
         bound,
     };
-    if is_cut_short(parts, &place) {
+    if any_cut_short(parts, &place) {
         Ok(JoinError::Cut(place))
     } else {
         Ok(JoinError::Lacks(place))

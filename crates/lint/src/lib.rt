@@ -5,15 +5,15 @@
 //! thread is, is said in `specs/Paths.antt`; all paths are followed in one pass, since jumps go
 //! forwards.
 //!
-//! [`deep::explore`] goes through the schedules that sleep sets leave, step by step and back, up to
-//! a number of ends, and keeps what they show of each assertion, each `signal` and each loop. It
+//! [`exploration::explore`] explores the schedules that sleep sets leave, step by step and back, up
+//! to a number of them, and keeps what they show of each assertion, each `signal` and each loop. It
 //! shares no code with the search.
 //!
 //! Places in the text and words are put in by a crate above. What is in `specs/inner` only the
 //! proofs need.
 #![tactic(auto)]
 
-pub mod deep;
+pub mod exploration;
 pub mod paths;
 pub mod seen;
 pub mod spin;

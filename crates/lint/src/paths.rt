@@ -41,8 +41,8 @@ pub fn skip_of(instruction: &Instruction) -> usize
     }
 }
 
-/// Whether an instruction is a test, after which a thread may go on with the next instruction or
-/// jump over some.
+/// Whether an instruction is a test: a jump over some instructions that is made only if a value is
+/// 0, so that a thread may also go on with the next instruction.
 pub fn is_test(instruction: &Instruction) -> bool
     ensures { result ≡ is_test instruction.now }
 {
@@ -50,7 +50,7 @@ pub fn is_test(instruction: &Instruction) -> bool
 }
 
 // Whether a thread owns a mutex after an instruction, where `owned` says whether it did before.
-// `None` for a `lock` of the mutex that it owns: the thread doesn't get past that.
+// `None` for a `lock` of the mutex where it owns it already: the thread doesn't get past that.
 fn owned_after(mutex: usize, instruction: &Instruction, owned: bool) -> Option<bool>
     ensures { result ≡ owned_after mutex instruction.now owned }
 {
@@ -79,10 +79,9 @@ fn affects_others(instruction: &Instruction) -> bool
     )
 }
 
-// Whether a local has got a value, and it wasn't tested yet, after an instruction; `set` says
-// whether it had before. `None` where the path isn't followed any further: the instruction tests
-// that value, is a `cas`, which tests by itself, or is sure to do something that other threads may
-// see.
+// Whether a path has given a local a value once an instruction is done; `set` says whether it had
+// before. `None` where the path isn't followed any further: the instruction tests that value, is a
+// `cas`, which tests by itself, or is sure to do something that other threads may see.
 fn is_set_after(local: usize, instruction: &Instruction, set: bool) -> Option<bool>
     ensures { result ≡ unseen_after local instruction.now set }
 {
@@ -96,7 +95,7 @@ fn is_set_after(local: usize, instruction: &Instruction, set: bool) -> Option<bo
 }
 
 // Whether the watched property holds after an instruction, where `holds` says whether it did
-// before. `None` where the path isn't followed any further.
+// before. `None` where the path isn't followed any further: see `owned_after` and `is_set_after`.
 fn holds_after(watch: Watch, instruction: &Instruction, holds: bool) -> Option<bool>
     ensures { result ≡ after watch instruction.now holds }
 {
@@ -120,9 +119,10 @@ fn add_mark(marks: &mut [Mark], at: usize, holds: bool)
     }
 }
 
-// Marks the instructions that may be next after the one of number `at`. The watched property holds
-// there or not, as `next` says; where `next` is `None`, nothing is marked.
-fn add_next(marks: &mut [Mark], at: usize, instruction: &Instruction, next: Option<bool>)
+// Marks the instructions that may be next after `instruction`, which has number `at`: some path
+// leads there, and the watched property holds after it or not, as `next` says. Marks nothing where
+// `next` is `None`: the path isn't followed any further.
+fn mark_successors(marks: &mut [Mark], at: usize, instruction: &Instruction, next: Option<bool>)
     requires { at + 1 + skip_of instruction.now < length marks.old }
     ensures { AddsNext marks.old marks.new at instruction.now next }
 {
@@ -135,15 +135,16 @@ fn add_next(marks: &mut [Mark], at: usize, instruction: &Instruction, next: Opti
     }
 }
 
-// Marks the instructions that may be next after the one of number `at`, in each way in which that
-// one is marked itself: where the watched property holds, and where it doesn't.
-fn add_all_next(marks: &mut [Mark], at: usize, instruction: &Instruction, watch: Watch)
+// Passes the marks of `instruction`, which has number `at`, on to those that may be next after it:
+// where some path leads to it with the watched property, and where some path leads to it without,
+// marks them by whether the property holds after it then.
+fn propagate_marks(marks: &mut [Mark], at: usize, instruction: &Instruction, watch: Watch)
     requires { at + 1 + skip_of instruction.now < length marks.old }
     ensures { AddsAll marks.old marks.new at instruction.now watch }
 {
     let here = marks[at];
     if here.may_hold {
-        add_next(
+        mark_successors(
             marks,
             at,
             instruction,
@@ -151,7 +152,7 @@ fn add_all_next(marks: &mut [Mark], at: usize, instruction: &Instruction, watch:
         );
     }
     if here.may_not_hold {
-        add_next(
+        mark_successors(
             marks,
             at,
             instruction,
@@ -161,8 +162,8 @@ fn add_all_next(marks: &mut [Mark], at: usize, instruction: &Instruction, watch:
 }
 
 // Marks, for each instruction of a code and for its end, whether some path from the instruction of
-// number `start` leads there so that the watched property holds, and whether some does so that it
-// doesn't. `holds` says whether it holds before `start`. At the call nothing is marked.
+// number `start` leads there with the watched property, and whether some path leads there without
+// it. `holds` says whether the property holds before `start`. At the call nothing is marked.
 fn mark_paths(marks: &mut [Mark], code: &[Instruction], watch: Watch, start: usize, holds: bool)
     requires none { (j : ℕ) (b : Bool) → ¬ Marked marks.old j b }
     requires length { length marks.old ≡ length code.now + 1 }
@@ -172,13 +173,13 @@ fn mark_paths(marks: &mut [Mark], code: &[Instruction], watch: Watch, start: usi
 {
     add_mark(marks, start, holds);
     for (at, instruction) in code.iter().enumerate() {
-        add_all_next(marks, at, instruction, watch);
+        propagate_marks(marks, at, instruction, watch);
     }
 }
 
 /// For each instruction of a code, and last for its end, whether some path from the instruction of
-/// number `start` leads there so that the watched property holds, and whether some does so that it
-/// doesn't. `holds` says whether it holds before `start`.
+/// number `start` leads there with the watched property, and whether some path leads there without
+/// it. `holds` says whether the property holds before `start`.
 ///
 /// # Errors
 ///
@@ -205,9 +206,8 @@ pub fn path_marks(
     Ok(marks)
 }
 
-/// Whether some path, by these marks, leads to an instruction that is sure to do something that
-/// other threads may see, or to the end of the code. The marks are those of the code's
-/// instructions, in order, and last of its end.
+/// Whether some path leads to an instruction that is sure to do something that other threads may
+/// see, or to the end of the code. `marks` has one mark of each instruction, and last of the end.
 pub fn reaches_effect_or_end(marks: &[Mark], code: &[Instruction]) -> bool
     requires { length marks.now ≡ length code.now + 1 }
     ensures { IsTrue result ↔ (j : ℕ) × (b : Bool) × Marked marks.now j b × ActsAt code.now j }
@@ -220,7 +220,7 @@ pub fn reaches_effect_or_end(marks: &[Mark], code: &[Instruction]) -> bool
     marks[code.len()].may_hold || marks[code.len()].may_not_hold
 }
 
-/// Whether some jump before the instruction of number `at` may jump over that instruction.
+/// Whether some instruction before that of number `at` may jump over it.
 pub fn is_passed_over(code: &[Instruction], at: usize) -> bool
     requires jumps { JumpsWithin code.now }
     requires at { at < length code.now }

@@ -1,4 +1,4 @@
-//! What the schedules that a walk has gone through show of a program.
+//! What the schedules explored so far show of a program: of its assertions, `signal`s and loops.
 
 ghost use Rattle.std.specs.Prelude.{◌<◌};
 ghost use Rattle.guest_code.specs.Program.{Program, IsValidCode, IsValidExpression};
@@ -6,10 +6,10 @@ ghost use Rattle.guest_code.specs.Program.{Program, IsValidCode, IsValidExpressi
 use crate::spin::Spin;
 use guest_code::limits::LOCALS;
 use guest_code::program::{Expression, Instruction, Program};
-use semantics::{Turn, expression_value, next_local, operand_value};
+use semantics::{Turn, expression_value, operand_value, run_if_local};
 use std::alloc::{AllocError, Global};
 
-/// The values with which an assertion was carried out, over all schedules gone through so far.
+/// The values with which an assertion was carried out, over all schedules explored so far.
 #[derive(Clone, Copy, Debug, PartialEq, Eq)]
 pub enum ValuesSeen {
     /// The assertion wasn't carried out.
@@ -20,7 +20,7 @@ pub enum ValuesSeen {
     Varied,
 }
 
-/// What was seen of an instruction of a thread, over all schedules gone through so far.
+/// What was seen of an instruction of a thread, over all schedules explored so far.
 #[derive(Drop)]
 pub struct InstructionSeen {
     /// Of an assertion: the values of its two sides.
@@ -32,9 +32,9 @@ pub struct InstructionSeen {
     pub signal_to_many: Option<Vec<u8>>,
 }
 
-/// What was seen of each instruction of each thread, by their numbers, and for each loop the
-/// threads of the steps up to the first time that the loop ended after its last turn, without a
-/// `leave`.
+/// What was seen of each instruction of each thread, by their numbers; and of each loop that a
+/// `leave` may end, the threads of the steps up to the first time that its turns ran out without a
+/// `leave`, or `None` where they didn't.
 #[derive(Drop)]
 pub struct Seen {
     alloc: Global,
@@ -42,8 +42,8 @@ pub struct Seen {
     pub ran_out: Vec<Option<Vec<u8>>>,
 }
 
-/// The values seen of an assertion, those before, `values`, and those of one more time that it is
-/// carried out: `left` and `right`, of its two sides.
+/// The values seen of the two sides of an assertion: `values` so far, and `left` and `right`, with
+/// which it is carried out now. `Varied` unless these two are the same each time.
 pub fn values_with(values: ValuesSeen, left: i64, right: i64) -> ValuesSeen {
     match values {
         ValuesSeen::Unseen => ValuesSeen::Same(left, right),
@@ -52,8 +52,8 @@ pub fn values_with(values: ValuesSeen, left: i64, right: i64) -> ValuesSeen {
     }
 }
 
-// The values of the two sides of an expression, with these locals; of a single operand its value
-// twice.
+// The values of the two sides of an assertion's expression, with these locals; of a single operand
+// its value twice.
 fn side_values(locals: &[i64; LOCALS], expression: &Expression) -> (i64, i64)
     requires { IsValidExpression expression.now }
 {
@@ -63,9 +63,10 @@ fn side_values(locals: &[i64; LOCALS], expression: &Expression) -> (i64, i64)
     }
 }
 
-/// A step that a schedule has come to, or the start of a thread: where something is seen.
+/// A step of a schedule, or the start of a thread: where something is seen.
 #[derive(Clone, Copy)]
 pub struct SeenStep<'a> {
+    /// The loops of the program that a `leave` may end.
     pub spins: &'a [Spin],
     /// The threads of the steps so far, in order, with that of this step last; none at the start.
     pub path: &'a [u8],
@@ -74,8 +75,8 @@ pub struct SeenStep<'a> {
     pub code: &'a [Instruction],
 }
 
-// What was seen of `count` instructions before any schedule: nothing.
-fn nothing_seen(alloc: Global, count: usize) -> Result<Vec<InstructionSeen>, AllocError> {
+// What was seen of each of `count` instructions before any schedule is explored: nothing.
+fn unseen_instructions(alloc: Global, count: usize) -> Result<Vec<InstructionSeen>, AllocError> {
     let mut instructions = Vec::new(alloc);
     for _ in 0..count {
         instructions.push(InstructionSeen {
@@ -88,7 +89,8 @@ fn nothing_seen(alloc: Global, count: usize) -> Result<Vec<InstructionSeen>, All
 }
 
 impl Seen {
-    /// What was seen of a program before any schedule: nothing. `spins` is the number of its loops.
+    /// What was seen of a program before any schedule is explored: nothing. `spins` is how many of
+    /// its loops a `leave` may end.
     ///
     /// # Errors
     ///
@@ -96,7 +98,7 @@ impl Seen {
     pub fn new(alloc: Global, program: &Program, spins: usize) -> Result<Seen, AllocError> {
         let mut instructions = Vec::new(alloc);
         for thread in 0..program.threads() {
-            instructions.push(nothing_seen(alloc, program.code(thread).len())?)?;
+            instructions.push(unseen_instructions(alloc, program.code(thread).len())?)?;
         }
         let mut ran_out = Vec::new(alloc);
         for _ in 0..spins {
@@ -109,16 +111,15 @@ impl Seen {
         })
     }
 
-    // Notes what is seen where a thread carries out the instruction of number `at` with these
-    // locals: for an assertion, the values of its sides and whether it holds; for any other one
-    // nothing.
-    fn note_instruction(&mut self, step: SeenStep<'_>, at: usize, locals: &[i64; LOCALS])
+    // Notes the values that the sides of an assertion have with these locals, and whether it holds.
+    // The assertion is the instruction of number `at`; does nothing where that is no assertion.
+    fn note_if_assertion(&mut self, step: SeenStep<'_>, at: usize, locals: &[i64; LOCALS])
         requires { (p : Program) × IsValidCode p step.code.now }
     {
         if let Some(Instruction::Assert(test)) = step.code.get(at) {
             let (left, right) = side_values(locals, test);
             let holds = expression_value(locals, test) != 0;
-            if let Some(instruction) = self.instruction(step.thread, at) {
+            if let Some(instruction) = self.instruction_mut(step.thread, at) {
                 instruction.values = values_with(instruction.values, left, right);
                 instruction.has_held = instruction.has_held || holds;
             }
@@ -133,21 +134,22 @@ impl Seen {
         }
     }
 
-    // What was seen of an instruction of a thread, to be changed; `None` where there is no such
-    // thread or instruction.
-    fn instruction(&mut self, thread: u8, at: usize) -> Option<&mut InstructionSeen> {
+    // What was seen of the instruction of number `at` of a thread, to be changed; `None` where
+    // there is no such thread or instruction.
+    fn instruction_mut(&mut self, thread: u8, at: usize) -> Option<&mut InstructionSeen> {
         self.instructions.get_mut(thread as usize)?.get_mut(at)
     }
 
-    /// Notes that a step is to carry out a `signal`, the instruction of number `at`, while several
-    /// threads wait for its condition. Only the first such step is kept.
+    /// Notes that `step` is to carry out a `signal`, the instruction of number `at`, while several
+    /// threads wait for its condition: keeps the threads of the steps up to this one, if none are
+    /// kept for this instruction yet.
     ///
     /// # Errors
     ///
     /// `AllocError` where memory runs out.
     pub fn note_signal_to_many(&mut self, step: SeenStep<'_>, at: usize) -> Result<(), AllocError> {
         let alloc = self.alloc;
-        if let Some(instruction) = self.instruction(step.thread, at) {
+        if let Some(instruction) = self.instruction_mut(step.thread, at) {
             if instruction.signal_to_many.is_none() {
                 instruction.signal_to_many = Some(Vec::from_slice(alloc, step.path)?);
             }
@@ -155,9 +157,15 @@ impl Seen {
         Ok(())
     }
 
-    // Notes that a thread goes from one instruction to another, where that ends a loop after its
-    // last turn, without a `leave`. Only the first such step of each loop is kept.
-    fn note_move(&mut self, step: SeenStep<'_>, from: usize, to: usize) -> Result<(), AllocError> {
+    // Notes each loop whose turns run out, without a `leave`, where the thread in `step` goes from
+    // instruction `from` to instruction `to`: keeps the threads of the steps up to there, if none
+    // are kept for this loop yet.
+    fn note_exhausted_loops(
+        &mut self,
+        step: SeenStep<'_>,
+        from: usize,
+        to: usize,
+    ) -> Result<(), AllocError> {
         for (i, spin) in step.spins.iter().enumerate() {
             if spin.runs_out(step.thread, from, to) {
                 if let Some(ran_out) = self.ran_out.get_mut(i) {
@@ -170,13 +178,13 @@ impl Seen {
         Ok(())
     }
 
-    /// Notes what is seen in a local run from the instruction of number `start` on, with these
-    /// locals.
+    /// Notes what is seen in the local run of the thread in `step` from the instruction of number
+    /// `start` on, with these locals: its assertions, and the loops whose turns run out.
     ///
     /// # Errors
     ///
     /// `AllocError` where memory runs out.
-    pub fn note_run(
+    pub fn note_local_run(
         &mut self,
         step: SeenStep<'_>,
         start: usize,
@@ -186,23 +194,23 @@ impl Seen {
     {
         let mut at = start;
         for _ in 0..step.code.len() {
-            self.note_instruction(step, at, &locals);
-            let Turn::Runs(next) = next_local(step.code, &mut locals, at) else {
+            self.note_if_assertion(step, at, &locals);
+            let Turn::Runs(next) = run_if_local(step.code, &mut locals, at) else {
                 return Ok(());
             };
-            self.note_move(step, at, next)?;
+            self.note_exhausted_loops(step, at, next)?;
             at = next;
         }
         Ok(())
     }
 
-    /// Notes what is seen from the instruction of number `at`, a thread's step, on: in going to the
-    /// next instruction, and in the local run from there, with the locals that the step leaves.
+    /// Notes what is seen after a thread's step, which carried out the instruction of number `at`:
+    /// in going to the next one, and in the local run from there, before which it has `locals`.
     ///
     /// # Errors
     ///
     /// `AllocError` where memory runs out.
-    pub fn note_step(
+    pub fn note_after_step(
         &mut self,
         step: SeenStep<'_>,
         at: usize,
@@ -210,7 +218,7 @@ impl Seen {
     ) -> Result<(), AllocError>
         requires { (p : Program) × IsValidCode p step.code.now }
     {
-        self.note_move(step, at, at.saturating_add(1))?;
-        self.note_run(step, at.saturating_add(1), locals)
+        self.note_exhausted_loops(step, at, at.saturating_add(1))?;
+        self.note_local_run(step, at.saturating_add(1), locals)
     }
 }

@@ -17,8 +17,8 @@ pub struct Spin {
 }
 
 impl Spin {
-    /// Whether the turns of the loop have run out where a thread goes from instruction `from` to
-    /// instruction `to`: whether that leads out of the loop, and isn't by its `leave`.
+    /// Whether the turns of the loop run out where a thread goes from instruction `from` to
+    /// instruction `to`: whether the loop is of this thread and ends so, and not by its `leave`.
     pub fn runs_out(&self, thread: u8, from: usize, to: usize) -> bool {
         self.thread == thread && self.exit == to && self.inside.get(from).copied().unwrap_or(false)
     }

@@ -38,7 +38,7 @@ pub enum Use {
     Releases,
 }
 
-// Whether a value, as an operand, is this local.
+// Whether an operand reads this local: whether it is the local, and no number.
 fn value_reads(local: usize, value: Value) -> bool
     ensures { result ≡ value_reads local value }
 {
@@ -114,15 +114,15 @@ pub fn variable_written(instruction: &Instruction) -> Option<usize>
     }
 }
 
-/// The variable that an instruction reads or writes; `None` where it does neither.
+/// The variable that an instruction reads, writes or may write; `None` where it names none.
 pub fn variable_used(instruction: &Instruction) -> Option<usize>
     ensures { result ≡ variable_used instruction.now }
 {
     variable_read(instruction).or(variable_written(instruction))
 }
 
-/// Whether an option holds this number; false for `None`.
-pub fn is_in_option(number: usize, there: Option<usize>) -> bool
+/// Whether `there`, such as the local that an instruction sets, is `Some(number)`.
+pub fn is_some_of(number: usize, there: Option<usize>) -> bool
     ensures { result ≡ is number there }
 {
     match there {
@@ -135,11 +135,11 @@ pub fn is_in_option(number: usize, there: Option<usize>) -> bool
 pub fn sets(local: usize, instruction: &Instruction) -> bool
     ensures { result ≡ sets local instruction.now }
 {
-    is_in_option(local, local_set(instruction))
+    is_some_of(local, local_set(instruction))
 }
 
-// Whether an instruction gives the local `wanted` a value and does nothing else: a `load` or a
-// `set`.
+// Whether an instruction gives the local `wanted` a value and changes nothing else: a `load` or a
+// `set`. An `add` writes a variable, too, and a `cas` may.
 fn only_sets(wanted: usize, instruction: &Instruction) -> bool
     ensures { result ≡ fills wanted instruction.now }
 {
@@ -181,7 +181,7 @@ fn names_semaphore(wanted: usize, instruction: &Instruction) -> bool
     }
 }
 
-// Whether an instruction waits for the condition `wanted`.
+// Whether an instruction waits for the condition `wanted`, with whichever mutex.
 fn waits(wanted: usize, instruction: &Instruction) -> bool
     ensures { result ≡ waits wanted instruction.now }
 {
@@ -240,8 +240,8 @@ impl Use {
             Use::Reads => reads(number, instruction),
             Use::Sets => sets(number, instruction),
             Use::OnlySets => only_sets(number, instruction),
-            Use::Loads => is_in_option(number, variable_read(instruction)),
-            Use::Stores => is_in_option(number, variable_written(instruction)),
+            Use::Loads => is_some_of(number, variable_read(instruction)),
+            Use::Stores => is_some_of(number, variable_written(instruction)),
             Use::OfMutex => names_mutex(number, instruction),
             Use::OfCondition => names_condition(number, instruction),
             Use::OfSemaphore => names_semaphore(number, instruction),

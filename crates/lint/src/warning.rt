@@ -62,7 +62,7 @@ pub struct Warning {
     pub number: usize,
 }
 
-// Whether some instruction of a thread makes this use of the local or the object of a number.
+// Whether some instruction of a thread makes this use of the local or the object of this number.
 fn is_used_in(program: &Program, thread: u8, use_: Use, number: usize) -> bool
     requires { thread < length program.now.threads }
     ensures { IsTrue result ↔ UsesIn program.now thread use_ number }
@@ -70,7 +70,7 @@ fn is_used_in(program: &Program, thread: u8, use_: Use, number: usize) -> bool
     use_.is_made_in(number, program.code(thread))
 }
 
-// Whether some instruction of the program makes this use of the object of a number.
+// Whether some instruction of the program makes this use of the object of this number.
 fn is_used(program: &Program, use_: Use, number: usize) -> bool
     ensures { IsTrue result ↔ UsesAnywhere program.now use_ number }
 {
@@ -82,7 +82,7 @@ fn is_used(program: &Program, use_: Use, number: usize) -> bool
     false
 }
 
-// The code of a thread. The clauses add that its jumps stay within it, and how long it is at most.
+// The code of a thread. `keeps_limits` does nothing, but proves the clauses on jumps and length.
 fn code_of(program: &Program, thread: u8) -> &[Instruction]
     requires { thread < length program.now.threads }
     ensures code { result.now ≡ code_of program.now thread }
@@ -104,8 +104,8 @@ fn is_reached(alloc: Global, code: &[Instruction], at: usize) -> Result<bool, Al
     Ok(marks[at].may_hold || marks[at].may_not_hold)
 }
 
-// Whether the instruction of number `at` is a `lock` of a mutex that the thread may not own before
-// it, and on some path after it still owns at the end of its code.
+// Whether the instruction of number `at` is a `lock` of a mutex that on some path to there the
+// thread doesn't own yet, and that on some path from there it still owns at the end of its code.
 fn may_stay_locked(alloc: Global, code: &[Instruction], at: usize) -> Result<bool, AllocError>
     requires jumps { JumpsWithin code.now }
     requires short { length code.now < 2 ^ 32 }
@@ -120,8 +120,8 @@ fn may_stay_locked(alloc: Global, code: &[Instruction], at: usize) -> Result<boo
     Ok(before[at].may_not_hold && marks[code.len()].may_hold)
 }
 
-// Whether the instruction of number `at`, an `unlock` or a `wait`, gives up a mutex that on some
-// path the thread doesn't own there.
+// Whether the instruction of number `at` is an `unlock` of, or a `wait` with, a mutex that the
+// thread doesn't own on some path to there.
 fn may_unlock_unowned(alloc: Global, code: &[Instruction], at: usize) -> Result<bool, AllocError>
     requires jumps { JumpsWithin code.now }
     requires short { length code.now < 2 ^ 32 }
@@ -137,8 +137,8 @@ fn may_unlock_unowned(alloc: Global, code: &[Instruction], at: usize) -> Result<
     Ok(marks[at].may_not_hold)
 }
 
-// Whether the instruction of number `at` is a `lock` of a mutex that the thread owns there already,
-// on some path and on each that leads there.
+// Whether the instruction of number `at` is a `lock`, to which some path leads, of a mutex that the
+// thread owns already on each path to there.
 fn locks_again(alloc: Global, code: &[Instruction], at: usize) -> Result<bool, AllocError>
     requires jumps { JumpsWithin code.now }
     requires short { length code.now < 2 ^ 32 }
@@ -152,10 +152,9 @@ fn locks_again(alloc: Global, code: &[Instruction], at: usize) -> Result<bool, A
     Ok(marks[at].may_hold && !marks[at].may_not_hold)
 }
 
-// Whether some path that begins after the instruction of number `at` leads to the end, or to an
-// instruction that is sure to do something that other threads may see, so that the local isn't
-// first given a value on it and then tested. Paths don't go on after a `cas`, which tests by
-// itself.
+// Whether some path that begins after the instruction of number `at`, on which the local isn't
+// given a value and then tested, leads to the end, or to an instruction that is sure to do
+// something that other threads may see. No path goes on after a `cas`, which tests by itself.
 fn may_go_untested(
     alloc: Global,
     code: &[Instruction],
@@ -172,8 +171,8 @@ fn may_go_untested(
 }
 
 // Whether the instruction of number `at` is a `wait` after which the thread may go on without a new
-// look at what it waited for: after which, for each local, some path on which the local isn't given
-// a value and then tested leads to the end, or to what other threads may see.
+// look at what it waited for: for each local, some path after the `wait` leads to the end, or to
+// what other threads may see, on which the local isn't given a value and then tested.
 fn waits_without_recheck(alloc: Global, code: &[Instruction], at: usize) -> Result<bool, AllocError>
     requires jumps { JumpsWithin code.now }
     requires short { length code.now < 2 ^ 32 }
@@ -204,9 +203,9 @@ fn waits_with_mixed_mutexes(program: &Program, instruction: &Instruction) -> boo
     }
 }
 
-// Whether the instruction of number `at` is an assertion of numbers alone, and not an `assert 0;`
-// that some jump may pass over.
-fn is_constant_at(code: &[Instruction], at: usize) -> bool
+// Whether the instruction of number `at` is an assertion of numbers alone that is likely a mistake:
+// not an `assert 0;` that some jump may pass over, by which a guest says that no run comes there.
+fn is_suspicious_constant(code: &[Instruction], at: usize) -> bool
     requires jumps { JumpsWithin code.now }
     requires short { length code.now < 2 ^ 32 }
     requires at { at < length code.now }
@@ -216,7 +215,7 @@ fn is_constant_at(code: &[Instruction], at: usize) -> bool
 }
 
 impl WarningKind {
-    /// How many locals, objects or instructions there are that a warning of this kind may be of.
+    /// How many locals, objects or instructions there are that this kind may warn of.
     pub fn count(self, program: &Program) -> usize
         requires { IsOfThread program.now self }
         ensures { result ≡ count_of program.now self }
@@ -244,7 +243,7 @@ impl WarningKind {
         }
     }
 
-    /// Whether what this kind warns of holds of the local, object or instruction of a number.
+    /// Whether the local, object or instruction of this number is one that this kind warns of.
     ///
     /// # Errors
     ///
@@ -287,11 +286,14 @@ impl WarningKind {
                 is_used(program, Use::Signals, number) && !is_used(program, Use::Waits, number),
             ),
             WarningKind::NeverReleased => Ok(
-                program.count(number) == 0
+                program.initial_count(number) == 0
                     && is_used(program, Use::Acquires, number)
                     && !is_used(program, Use::Releases, number),
             ),
-            WarningKind::Constant(thread) => Ok(is_constant_at(code_of(program, thread), number)),
+            WarningKind::Constant(thread) => Ok(is_suspicious_constant(
+                code_of(program, thread),
+                number,
+            )),
             WarningKind::Unreached(thread) => Ok(!is_reached(
                 alloc,
                 code_of(program, thread),

@@ -42,8 +42,8 @@ fn kinds(alloc: Global, program: &Program) -> Result<Vec<WarningKind>, AllocErro
     Ok(all)
 }
 
-// The warnings of one kind, in the order of numbers: one for each local, object or instruction of
-// which what the kind warns of holds.
+// The warnings of one kind: one for each local, object or instruction that the kind applies to, in
+// the order of their numbers.
 fn warnings_of(
     alloc: Global,
     program: &Program,
@@ -61,8 +61,8 @@ fn warnings_of(
     Ok(all)
 }
 
-/// The warnings of a program, one kind after the other: exactly those whose kind applies to their
-/// number.
+/// All warnings of a program, one kind after the other: of each kind exactly one for each local,
+/// object or instruction that the kind applies to, in the order of their numbers.
 ///
 /// # Errors
 ///

@@ -1,4 +1,4 @@
-//! A state but for its values, and the parts of a step.
+//! A state but for its values and queues, and what the parts of a step change in it.
 
 ghost use Rattle.std.specs.Prelude.{◌≡◌, ◌≢◌, ◌^◌, ◌<◌, ◌≤◌, ◌∷◌, [], ◌+◌, ◌-◌, ℕ, ◌++◌, drop, nat_lt, false, length, slice_get, slice_index_or, slice_set, Some, None};
 ghost use Rattle.guest_code.specs.Program.{Program, IsValid, IsValidCode, IsWellFormed, code_of};
@@ -22,9 +22,8 @@ use semantics::Landing;
 use semantics::mask::Mask;
 use semantics::state::Status;
 
-/// A state but for its values and queues: which threads can take a step, which have ended, where
-/// each thread is, the mutexes and semaphores, and which threads are at each of these. A control is
-/// small and copied as it is, so that a copy takes no call.
+/// A state but for its values and queues. It is small and copied as it is, so that a copy takes no
+/// call.
 #[derive(Clone, Copy, Debug)]
 pub struct Control {
     /// The threads that can take a step.
@@ -33,7 +32,7 @@ pub struct Control {
     pub(crate) unended: Mask,
     /// The threads that stopped.
     pub(crate) stopped: Mask,
-    /// The threads that were called, and have to take their mutexes again.
+    /// The threads that a signal or a broadcast woke, and that have to take their mutexes again.
     pub(crate) woken: Mask,
     /// The number of the instruction where each thread is.
     pub(crate) places: [u16; THREADS],
@@ -72,18 +71,19 @@ fn threads_of(program: &Program) -> Mask
     threads_below(program.threads())
 }
 
-// The counts of a program's semaphores in its opening state.
-fn opening_counts(program: &Program) -> [u16; OBJECTS]
+// The counts of a program's semaphores before the first step; 0 for a number that no semaphore has.
+fn initial_counts(program: &Program) -> [u16; OBJECTS]
     ensures { (k : ℕ) → slice_index_or result k 0 ≡ count_of (start program.now) k }
 {
     let mut counts = [0; OBJECTS];
     for k in 0..program.semaphores() {
-        counts[k as usize] = program.count(k as usize);
+        counts[k as usize] = program.initial_count(k as usize);
     }
     counts
 }
 
-// A queue of `_length` threads, with `thread` put at its end: four bits each, the last one lowest.
+// A queue of `_length` threads with `thread` added at its end. A queue is a word of four bits for
+// each of its threads, those of the last one lowest.
 fn queue_with(queue: i64, thread: u8, _length: u8) -> i64
     requires thread { thread < THREADS }
     requires room { _length < THREADS }
@@ -92,7 +92,8 @@ fn queue_with(queue: i64, thread: u8, _length: u8) -> i64
     ((queue.cast_unsigned() << 4) | (thread as u64)).cast_signed()
 }
 
-// The first thread of a queue of `length` threads: four bits for each, the last one lowest.
+// The first thread of a queue of `length` threads. A queue is a word of four bits for each of its
+// threads, those of the last one lowest.
 fn queue_front(queue: i64, length: u8) -> u8
     requires some { 0 < length }
     requires few { length ≤ THREADS }
@@ -103,7 +104,8 @@ fn queue_front(queue: i64, length: u8) -> u8
 }
 
 impl Control {
-    /// The control of a program's opening state before any thread has arrived: none is enabled yet.
+    /// The control of a program's initial state before [`Control::place_thread`] has been called
+    /// for any thread: none has ended or is enabled yet.
     pub(crate) fn without_threads(program: &Program) -> Control
         ensures { IsOpenedTo program.now (start program.now) 0 result }
     {
@@ -114,7 +116,7 @@ impl Control {
             woken: Mask::empty(),
             places: [0; THREADS],
             owners: [FREE; OBJECTS],
-            counts: opening_counts(program),
+            counts: initial_counts(program),
             mutexes: [Mask::empty(); OBJECTS],
             semaphores: [Mask::empty(); OBJECTS],
             lengths: [0; OBJECTS],
@@ -129,7 +131,8 @@ impl Control {
         self.enabled
     }
 
-    // A thread takes the free mutex `m`, at which it is. The others there can't take a step then.
+    // Lets a thread take the free mutex `m`: it isn't woken then, nor among the threads whose next
+    // steps take `m`. The others among these are enabled no more.
     fn take_mutex(&mut self, thread: u8, m: usize)
         requires thread { thread < THREADS }
         requires m { m < OBJECTS }
@@ -146,7 +149,7 @@ impl Control {
         self.enabled = self.enabled.difference(near);
     }
 
-    // Makes the mutex `m` free: the threads that are at it can take a step then.
+    // Makes the mutex `m` free: all threads whose next steps take it are enabled then.
     fn free_mutex(&mut self, m: usize)
         requires m { m < OBJECTS }
         ensures lengths { self.new.lengths ≡ self.old.lengths }
@@ -158,7 +161,8 @@ impl Control {
         self.enabled = self.enabled.union(self.mutexes[m]);
     }
 
-    // A thread at the semaphore `k` acquires it. At count 0 then, others at it can take no step.
+    // Lets a thread acquire the semaphore `k`: it isn't among the threads whose next steps acquire
+    // `k` then. Where that leaves the count 0, the others among these are enabled no more.
     fn acquire(&mut self, thread: u8, k: usize)
         requires thread { thread < THREADS }
         requires k { k < OBJECTS }
@@ -179,7 +183,8 @@ impl Control {
         }
     }
 
-    // Raises the count of the semaphore `k`: the threads that are at it can take a step then.
+    // Raises the count of the semaphore `k` by 1, for which there is room: all threads whose next
+    // steps acquire `k` are enabled then.
     fn release(&mut self, k: usize)
         requires k { k < OBJECTS }
         requires count { slice_index_or self.old.counts k 0 < COUNT }
@@ -193,7 +198,8 @@ impl Control {
         self.enabled = self.enabled.union(self.semaphores[k]);
     }
 
-    // Puts a thread at the end of the queue of the condition `c`, which the cell `queue` holds.
+    // Puts a thread at the end of the queue of the condition `c`, whose threads the word `queue`
+    // holds. The queue's length rises by 1.
     fn enqueue(&mut self, queue: &mut i64, thread: u8, c: usize)
         requires thread { thread < THREADS }
         requires c { c < OBJECTS }
@@ -211,7 +217,9 @@ impl Control {
         self.lengths[c] = length + 1;
     }
 
-    // Takes the first thread out of the `queue` of condition `c`: its length falls, the cell stays.
+    // Takes the first thread out of the queue of the condition `c`, and answers it. The queue's
+    // length falls by 1, so that the thread's bits in the word `queue` don't count any more; the
+    // word stays.
     fn dequeue(&mut self, queue: i64, c: usize) -> u8
         requires c { c < OBJECTS }
         requires some { 0 < slice_index_or self.old.lengths c 0 }
@@ -230,8 +238,9 @@ impl Control {
         thread
     }
 
-    // Marks the status of an idle thread in the sets of the woken, unended and stopped threads.
-    fn mark(&mut self, thread: u8, status: Status)
+    // Enters a thread, which was neither woken, ended nor stopped, in the sets of the woken, the
+    // unended and the stopped threads by its new status. One that runs or waits changes none.
+    fn note_status(&mut self, thread: u8, status: Status)
         requires thread { thread < THREADS }
         ensures lengths { self.new.lengths ≡ self.old.lengths }
         ensures marks { IsIdle self.old thread → IsMarked self.old self.new thread status }
@@ -244,8 +253,9 @@ impl Control {
         }
     }
 
-    // Puts a thread to the mutex `m`, which its next step takes. Answers whether the mutex is free.
-    fn stand_at_mutex(&mut self, thread: u8, m: usize) -> bool
+    // Adds a thread to those whose next steps take the mutex `m`. Answers whether the mutex is
+    // free, so that the thread can take that step.
+    fn register_at_mutex(&mut self, thread: u8, m: usize) -> bool
         requires thread { thread < THREADS }
         requires m { m < OBJECTS }
         ensures lengths { self.new.lengths ≡ self.old.lengths }
@@ -257,9 +267,11 @@ impl Control {
         self.owners[m] == FREE
     }
 
-    // Puts a running thread to what its next instruction takes. Answers whether it can take a step.
+    // Where a running thread's step at this instruction takes a mutex or acquires a semaphore, adds
+    // the thread to the set of those whose next steps do so. Answers whether the mutex is free, or
+    // the count above 0. At other visible instructions answers true, at local ones false.
     #[inline(always)]
-    fn stand_running(&mut self, instruction: &Instruction, thread: u8) -> bool
+    fn register_lock_or_acquire(&mut self, instruction: &Instruction, thread: u8) -> bool
         requires thread { thread < THREADS }
         requires fine { (p : Program) × IsValid p instruction.now × IsWellFormed p }
         ensures lengths { self.new.lengths ≡ self.old.lengths }
@@ -267,7 +279,7 @@ impl Control {
             → Stands self.old self.new s thread (action_of instruction.now) result }
     {
         match instruction {
-            Instruction::Lock(m) => self.stand_at_mutex(thread, *m),
+            Instruction::Lock(m) => self.register_at_mutex(thread, *m),
             Instruction::Acquire(k) => {
                 self.semaphores[*k] = self.semaphores[*k].with(thread, true);
                 self.counts[*k] > 0
@@ -280,8 +292,9 @@ impl Control {
         }
     }
 
-    // Puts a woken thread to the mutex of its `wait`. Answers whether the thread can take a step.
-    fn stand_woken(&mut self, instruction: &Instruction, thread: u8) -> bool
+    // Adds a woken thread to those whose next steps take the mutex of the `wait` where the thread
+    // is. Answers whether the mutex is free; false, adding nothing, at other instructions.
+    fn register_retake(&mut self, instruction: &Instruction, thread: u8) -> bool
         requires thread { thread < THREADS }
         requires fine { (p : Program) × IsValid p instruction.now × IsWellFormed p }
         ensures lengths { self.new.lengths ≡ self.old.lengths }
@@ -289,14 +302,17 @@ impl Control {
             → Stands self.old self.new s thread (retake_of instruction.now) result }
     {
         match instruction {
-            Instruction::Wait { mutex, .. } => self.stand_at_mutex(thread, *mutex),
+            Instruction::Wait { mutex, .. } => self.register_at_mutex(thread, *mutex),
             _ => false,
         }
     }
 
-    // Puts a thread that lands to what its next step takes. Answers whether it can take a step.
+    // Where the next step of a thread, whose place and status are `at`, takes a mutex or acquires a
+    // semaphore, adds the thread to the set of those whose next steps do so. Answers whether it can
+    // take the step: not at a held mutex, at a count of 0, or where it waits, has ended or stopped.
+    // True at once if `at.free` says that the step is possible and takes no mutex or semaphore.
     #[inline(always)]
-    fn stand(&mut self, code: &[Instruction], thread: u8, at: Landing) -> bool
+    fn register_and_test(&mut self, code: &[Instruction], thread: u8, at: Landing) -> bool
         requires thread { thread < THREADS }
         requires fine { (p : Program) × IsValidCode p code.now × IsWellFormed p }
         requires free { IsFreeIn code.now at }
@@ -310,20 +326,22 @@ impl Control {
         }
         match at.status {
             Status::Running => match code.get(at.pc) {
-                Some(instruction) => self.stand_running(instruction, thread),
+                Some(instruction) => self.register_lock_or_acquire(instruction, thread),
                 None => false,
             },
             Status::Woken => match code.get(at.pc) {
-                Some(instruction) => self.stand_woken(instruction, thread),
+                Some(instruction) => self.register_retake(instruction, thread),
                 None => false,
             },
             Status::Waiting(_) | Status::Ended | Status::Stopped(_) => false,
         }
     }
 
-    /// An idle thread, at no mutex or semaphore, lands: gets its status and place, enabled or not.
+    /// Gives a thread the place and status `at`, and notes which mutex or semaphore its next step
+    /// takes, if any, and whether it is enabled. Before the call the thread is not woken, ended or
+    /// stopped, and no mutex or semaphore is noted for it.
     #[inline(always)]
-    pub(crate) fn arrive(&mut self, code: &[Instruction], thread: u8, at: Landing)
+    pub(crate) fn place_thread(&mut self, code: &[Instruction], thread: u8, at: Landing)
         requires thread { thread < THREADS }
         requires fine { (p : Program) × IsValidCode p code.now × IsWellFormed p }
         requires pc { at.pc < 2 ^ 16 }
@@ -333,8 +351,8 @@ impl Control {
             → IsIdle self.old thread → IsLandingOf at th → code.now ≡ code_of p thread
             → Lands p self.old self.new s thread th }
     {
-        self.mark(thread, at.status);
-        let on = self.stand(code, thread, at);
+        self.note_status(thread, at.status);
+        let on = self.register_and_test(code, thread, at);
         self.places[thread as usize] = at.pc as u16;
         self.enabled = self.enabled.with(thread, on);
     }
@@ -356,6 +374,6 @@ impl Control {
             status: Status::Woken,
             free: false,
         };
-        self.arrive(program.code(thread), thread, at);
+        self.place_thread(program.code(thread), thread, at);
     }
 }

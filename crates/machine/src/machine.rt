@@ -1,4 +1,4 @@
-//! The state in which a walk runs a program.
+//! A state of a program with all that stepping, copying and restoring it takes.
 
 ghost use Rattle.std.specs.Prelude.{◌≡◌, ◌<◌, ◌≤◌, ◌+◌, ◌*◌, ◌&&◌, ◌||◌, ◌≢◌, nat_lt, ℕ, replicate, true, false, length, All, IfOk, OnOk, IsTrue, IsFalse};
 ghost use Rattle.guest_code.specs.Program.{Program, LocalsBelow};
@@ -24,8 +24,8 @@ use semantics::state::State;
 use semantics::view::Kind;
 use std::alloc::{AllocError, Global};
 
-// For how many values a machine has room: the most that there are, and more than a line of a
-// processor's cache, so that no two machines' values are in one.
+// For how many values a machine has room: the most that there are, and more than a cache line, so
+// that no two machines' values are in one.
 const VALUES_ROOM: usize = VARIABLES + OBJECTS + THREADS * LOCALS + 16;
 
 /// A state of a program, in a form that is fast to step and to copy.
@@ -33,10 +33,9 @@ const VALUES_ROOM: usize = VARIABLES + OBJECTS + THREADS * LOCALS + 16;
 pub struct Machine {
     /// All of the state but its values.
     pub control: Control,
-    /// The values of the variables, a queue for each condition, and then for each thread the same
-    /// number of locals.
+    /// The values of the variables, a queue for each condition, and `width` locals for each thread.
     pub values: Vec<i64>,
-    /// What doesn't change.
+    /// What no step changes.
     pub(crate) shape: Shape,
 }
 
@@ -58,7 +57,7 @@ pub struct Run {
     pub steps: u32,
     /// The threads that were enabled after each step but the last.
     pub among: Mask,
-    /// The threads that are enabled now.
+    /// The threads that are enabled after the last step.
     pub enabled: Mask,
 }
 
@@ -84,7 +83,8 @@ fn is_empty(mask: Mask) -> bool
 }
 
 impl Machine {
-    // Adds a thread, the next by its number, as it is in the opening state of the program: `state`.
+    // Adds a thread, as it is in `state`, the program's initial state, to a machine that has just
+    // the threads with smaller numbers: appends its locals, and enters it in the control.
     fn add_thread(&mut self, program: &Program, state: &State, thread: u8) -> Result<(), AllocError>
         requires state { state.now ≡ start program.now }
         requires of { IsOf program.now state.now }
@@ -102,12 +102,12 @@ impl Machine {
             status: state.status(thread),
             free: false,
         };
-        self.control.arrive(program.code(thread), thread, at);
+        self.control.place_thread(program.code(thread), thread, at);
         Ok(())
     }
 
-    /// A machine that shows the opening state of a program, in which each thread has run up to its
-    /// first visible statement. No other call takes memory.
+    /// A machine that shows the initial state of a program: each thread has taken its first local
+    /// run, and each condition's queue is empty. No other call on a machine takes memory.
     ///
     /// # Errors
     ///
@@ -136,9 +136,10 @@ impl Machine {
         Ok(machine)
     }
 
-    /// Runs an enabled thread: a step and, where the thread is alone, further ones, while it is
-    /// enabled and the set of the enabled threads is what it was after the first step. `alone` says
-    /// that no other thread may step while this one can. It takes no memory.
+    /// Takes a step of an enabled thread and, where `alone` is true, further steps of it, while it
+    /// is enabled and the same threads are enabled as after its first step. A thread is `alone`
+    /// where no other may step while it can, as at the bound. Answers how many steps were taken,
+    /// and which threads were enabled. Takes no memory.
     #[inline(always)]
     pub fn run(&mut self, program: &Program, thread: u8, alone: bool) -> Run
         requires { (s : Snapshot) × Shows program.now self.old s
@@ -171,7 +172,8 @@ impl Machine {
         self.control.enabled()
     }
 
-    /// How a complete schedule to this state ends.
+    /// How the complete schedule that led to this state ends: failed where a thread stopped, done
+    /// where all have ended, else stuck. That no thread is enabled isn't checked.
     pub fn kind(&self) -> Kind
         ensures { (p : Program) → (s : Snapshot) → Shows p self.now s
             → result ≡ final_kind s.threads }
@@ -201,11 +203,12 @@ impl Machine {
             → is_enabled p s thread ≡ true → result ≡ touch_of (next_of p s thread) }
     {
         let place = self.control.places[thread as usize] as usize;
-        let woken = self.control.woken.contains(thread);
+        let woken = self.control.woken.has(thread);
         self.shape.touches.threads[thread as usize][place][woken as usize]
     }
 
-    // The other enabled threads that are asleep or before `thread`: after its step they may sleep.
+    // The threads that may sleep after a step of `thread`: the other enabled ones that are `asleep`
+    // before it or have smaller numbers. The two differences make the intersection.
     fn sleep_candidates(&self, asleep: Mask, thread: u8) -> Mask
         requires thread { thread < THREADS }
         requires before { AreBefore self.now.shape.touches.before }
@@ -218,9 +221,10 @@ impl Machine {
         others.difference(others.difference(asleep.union(before)))
     }
 
-    /// Who sleeps after a step of an enabled thread, where `asleep` sleep now: the enabled threads
-    /// that sleep now or come before that thread, and whose next steps are independent of its step.
-    pub fn sleepers(&self, _program: &Program, asleep: Mask, thread: u8) -> Mask
+    /// The sleep set after a step of an enabled thread, where `asleep` is the one before it: the
+    /// other enabled threads that are asleep before it or have smaller numbers, and whose next
+    /// steps are independent of the step.
+    pub fn sleep_set_after(&self, _program: &Program, asleep: Mask, thread: u8) -> Mask
         requires { (s : Snapshot) × Shows _program.now self.now s
             × (is_enabled _program.now s thread ≡ true) }
         ensures { (s : Snapshot) → Shows _program.now self.now s
@@ -234,7 +238,7 @@ impl Machine {
         let step = self.touch(thread);
         let mut left = sleepers;
         while let Some(other) = left.first_from(0) {
-            if !step.is_apart(self.touch(other)) {
+            if !step.is_independent_of(self.touch(other)) {
                 sleepers = sleepers.with(other, false);
             }
             left = left.with(other, false);
@@ -249,14 +253,14 @@ impl Machine {
         self.control
     }
 
-    /// How many values the state has, each a word.
+    /// How many values the state has: how many words [`Machine::copy_into`] writes.
     pub fn size(&self) -> usize
         ensures { result ≡ length self.now.values.items }
     {
         self.values.len()
     }
 
-    /// Copies the state's values into as many words.
+    /// Copies the state's values into `words`, whose length must be [`Machine::size`].
     pub fn copy_into(&self, words: &mut [i64])
         requires { length words.old ≡ length self.now.values.items }
         ensures { words.new ≡ self.now.values.items }
@@ -264,7 +268,8 @@ impl Machine {
         words.copy_from_slice(self.values.as_slice());
     }
 
-    /// Goes back to a state of which these are copies: the machine shows what it showed then.
+    /// Goes back to the state of which `control` and `words` are copies: the machine shows what it
+    /// showed when they were made.
     pub fn restore(&mut self, control: &Control, words: &[i64])
         requires { length words.now ≡ length self.old.values.items }
         ensures shows { (p : Program) → (s : Snapshot) → (m : Machine) → Shows p m s

@@ -18,9 +18,8 @@ use semantics::mask::Mask;
 use semantics::state::{Action, Status, VariableAction};
 use std::alloc::{AllocError, Global};
 
-/// The objects that a step touches, a bit for each. The number of the bit is four times that of the
-/// object, and then 0 for a variable, 1 for a mutex, 2 for a condition and 3 for a semaphore: so no
-/// two objects have one bit.
+/// The objects that a step touches, a bit for each. The number of an object's bit is four times its
+/// own, plus 0 for a variable, 1 for a mutex, 2 for a condition and 3 for a semaphore.
 #[derive(Clone, Copy)]
 pub(crate) struct Touch {
     /// All objects that the step touches.
@@ -32,7 +31,7 @@ pub(crate) struct Touch {
 /// What each step of a program touches, made once.
 #[derive(Drop)]
 pub(crate) struct Touches {
-    /// For each thread, the threads before it.
+    /// For each thread number, the set of the threads with smaller numbers.
     pub(crate) before: [Mask; THREADS],
     /// For each thread and each place of its code, what a step touches there: that of a thread that
     /// runs, and that of one that was woken.
@@ -40,7 +39,7 @@ pub(crate) struct Touches {
 }
 
 impl Touch {
-    // The touch of one object, by the number of its bit, that is written.
+    // The touch of a step that touches one object and writes it; `bit` is the number of its bit.
     fn writing(bit: usize) -> Touch
         requires { bit < 64 }
         ensures all { result.all ≡ 2 ^ bit }
@@ -52,7 +51,8 @@ impl Touch {
         }
     }
 
-    // The objects of two touches together.
+    // The touch of two steps together: the objects that either touches, and those that either
+    // writes.
     fn union(self, other: Touch) -> Touch
         ensures all { result.all ≡ bit_or self.all other.all }
         ensures written { result.written ≡ bit_or self.written other.written }
@@ -63,7 +63,8 @@ impl Touch {
         }
     }
 
-    // What an action on a variable touches.
+    // What a step with this action on a variable touches: the variable, whose bit has the number
+    // `4 * variable`. A load only reads it; each other action writes it.
     fn of_variable(variable: usize, action: VariableAction) -> Touch
         requires { variable < VARIABLES }
         ensures { result ≡ touch_of (Some (OnVariable variable action)) }
@@ -80,7 +81,8 @@ impl Touch {
         }
     }
 
-    // What an action touches.
+    // What a step with this action touches. The bit of an object has four times its number, plus 0
+    // for a variable, 1 for a mutex, 2 for a condition and 3 for a semaphore.
     fn of_action(action: Action) -> Touch
         requires { (p : Program) × IsWellFormed p × IsValidAction p action }
         ensures { result ≡ touch_of (Some action) }
@@ -94,7 +96,7 @@ impl Touch {
         }
     }
 
-    // What an action touches, if there is one, and nothing else.
+    // What a step with this action touches; where there is no action, the touch of no object.
     fn of(action: Option<Action>) -> Touch
         requires { (p : Program) × IsWellFormed p × IfSome action (IsValidAction p) }
         ensures { result ≡ touch_of action }
@@ -105,9 +107,10 @@ impl Touch {
         }
     }
 
-    /// Whether two steps are independent: no object is touched by both and written by one of them.
+    /// Whether two steps with these touches are independent: no object is touched by both and
+    /// written by one of them.
     #[inline(always)]
-    pub(crate) fn is_apart(self, other: Touch) -> bool
+    pub(crate) fn is_independent_of(self, other: Touch) -> bool
         ensures { (a : Action) → (b : Action) → self ≡ touch_of (Some a)
             → other ≡ touch_of (Some b) → result ≡ apart (Some a) (Some b) }
     {
@@ -115,7 +118,8 @@ impl Touch {
     }
 }
 
-// What a step at an instruction touches: that of a thread that runs, and that of a woken one.
+// What a step at an instruction touches: first that of a running thread, then that of a woken one.
+// Where such a thread takes no step at the instruction, the touch has no object.
 fn touches_at(instruction: &Instruction) -> [Touch; 2]
     requires { (p : Program) × IsWellFormed p × IsValid p instruction.now }
     ensures { result ≡ touches_at instruction.now }
@@ -126,7 +130,7 @@ fn touches_at(instruction: &Instruction) -> [Touch; 2]
     ]
 }
 
-// For each thread, the threads before it.
+// For each thread number, the set of the threads with smaller numbers.
 fn threads_before() -> [Mask; THREADS]
     ensures { AreBefore result }
 {
@@ -137,7 +141,7 @@ fn threads_before() -> [Mask; THREADS]
     before
 }
 
-// What a thread's steps touch at each place of its code.
+// For each instruction of a thread's code, what a step there touches, by `touches_at`.
 fn thread_touches(
     alloc: Global,
     program: &Program,
@@ -156,7 +160,7 @@ fn thread_touches(
 }
 
 impl Touches {
-    /// What each step of a program touches.
+    /// What a step touches at each instruction of each thread of a program.
     ///
     /// # Errors
     ///

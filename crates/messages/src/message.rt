@@ -45,6 +45,7 @@ pub enum Severity {
 }
 
 impl fmt::Display for Severity {
+    /// Writes the word for the severity, which is `error` for a refusal.
     fn fmt<W: fmt::Write>(&self, f: &mut fmt::Formatter<W>) -> fmt::Result {
         f.write_str(match self {
             Severity::Refusal => "error",
@@ -72,7 +73,7 @@ pub struct Diagnostic {
 
 impl Diagnostic {
     /// The number and the name of the kind of diagnostic, as `S1` and `NotAscii`: the second and
-    /// the third word of the short form.
+    /// the third word of the headline.
     pub fn code(&self) -> (&str, &str)
         ensures number { result.0.now ≡ code_number (string_bytes self.now.headline) }
         ensures name { result.1.now ≡ code_name (string_bytes self.now.headline) }
@@ -102,7 +103,7 @@ fn split_at_blank(text: &str) -> (&str, &str)
 
 // The rest of a text from the start of a line on; empty where there is no such line. Lines count
 // from 1.
-fn from_line(text: &[u8], line: u32) -> &[u8]
+fn skip_to_line(text: &[u8], line: u32) -> &[u8]
     ensures { result.now ≡ from_line text.now line }
 {
     let mut left = line;
@@ -117,15 +118,15 @@ fn from_line(text: &[u8], line: u32) -> &[u8]
     &[]
 }
 
-// Whether a byte belongs to the line that it is in: it is no line feed.
+// Whether a byte is part of a line: it isn't the line feed that ends one.
 fn is_in_line(byte: u8) -> bool
     ensures { result ≡ is_in_line byte }
 {
     byte != b'\n'
 }
 
-// How many bytes of a text come before its first line feed; all where it has none.
-fn line_length(text: &[u8]) -> usize
+// The length of a text's first line: the bytes before the first line feed, or all if it has none.
+fn first_line_length(text: &[u8]) -> usize
     ensures { result ≡ prefix_len is_in_line text.now }
 {
     text.iter().take_while(|byte| is_in_line(**byte)).count()
@@ -135,14 +136,14 @@ fn line_length(text: &[u8]) -> usize
 fn first_line(text: &[u8]) -> &[u8]
     ensures { result.now ≡ first_line text.now }
 {
-    &text[..line_length(text)]
+    &text[..first_line_length(text)]
 }
 
 /// A line of a text, without its line feed; empty where there is no such line. Lines count from 1.
 pub fn line_of(text: &[u8], line: u32) -> &[u8]
     ensures { result.now ≡ line_of text.now line }
 {
-    first_line(from_line(text, line))
+    first_line(skip_to_line(text, line))
 }
 
 /// The printable character that stands for a byte of a source line: a blank for a tab and a
@@ -160,10 +161,10 @@ pub fn shown(byte: u8) -> u8
     }
 }
 
-// The index of the first byte that is shown of a line of `length` bytes, of which at most `SHOWN`
-// are: such that the byte at index `column` is as near to the middle of the shown ones as it can
+// The index of the first byte that is shown of a line of `length` bytes. Of a line longer than
+// `SHOWN`, that many bytes are shown, with the one at index `column` as near to their middle as can
 // be.
-fn first_shown(length: usize, column: usize) -> usize
+fn first_shown_index(length: usize, column: usize) -> usize
     ensures value { result ≡ left_out length column }
     ensures few { result ≤ length }
 {
@@ -173,8 +174,8 @@ fn first_shown(length: usize, column: usize) -> usize
     (column - SHOWN / 2).min(length - SHOWN)
 }
 
-// Adds as many copies of a byte as `count` says.
-fn put_many(out: &mut Vec<u8>, byte: u8, count: usize) -> Result<(), AllocError>
+// Adds `count` copies of a byte to `out`.
+fn put_copies(out: &mut Vec<u8>, byte: u8, count: usize) -> Result<(), AllocError>
     ensures { Puts result out.old out.new (replicate count byte) }
 {
     for done in 0..count {
@@ -183,18 +184,18 @@ fn put_many(out: &mut Vec<u8>, byte: u8, count: usize) -> Result<(), AllocError>
     Ok(())
 }
 
-// Adds what comes to the left of a source line: the number of the line, right-aligned in 5 columns
-// or more, and a bar.
+// Adds to `out` what is printed to the left of a source line: the number of the line, right-aligned
+// in 5 columns or more, and a bar.
 fn put_margin(out: &mut Vec<u8>, line: u32) -> Result<(), AllocError>
     ensures { Puts result out.old out.new (margin line) }
 {
     let number = decimal(*out.allocator(), line as u64)?;
-    put_many(out, b' ', 5_usize.saturating_sub(number.len()))?;
+    put_copies(out, b' ', 5_usize.saturating_sub(number.len()))?;
     out.extend_from_slice(number.as_bytes())?;
     out.extend_from_slice(b" | ")
 }
 
-/// Adds bytes of a source line, each as the character that [`shown`] has for it.
+/// Adds bytes of a source line to `out`, each as the character that [`shown`] has for it.
 ///
 /// # Errors
 ///
@@ -208,37 +209,39 @@ pub fn put_shown(out: &mut Vec<u8>, bytes: &[u8]) -> Result<(), AllocError>
     Ok(())
 }
 
-// The first bytes, at most `SHOWN`: as many as are shown of a source line.
+// The first bytes of the rest of a source line: as many as are shown of a line, at most `SHOWN`.
 #[tactic(auto, using(std::proofs::lemmas::List::take_min))]
-fn first_bytes(rest: &[u8]) -> &[u8]
+fn first_shown_bytes(rest: &[u8]) -> &[u8]
     ensures { result.now ≡ take SHOWN rest.now }
 {
     let end = SHOWN.min(rest.len());
     &rest[..end]
 }
 
-// Adds the part of a source line that is shown, from the byte at index `from` on, and a line feed.
+// Adds to `out` the part of a source line that is shown, from the byte at index `from` on, and a
+// line feed.
 fn put_source_line(out: &mut Vec<u8>, line: &[u8], from: usize) -> Result<(), AllocError>
     requires { from ≤ length line.now }
     ensures { Puts result out.old out.new (source_line line.now from) }
 {
     let (_, rest) = line.split_at(from);
-    put_shown(out, first_bytes(rest))?;
+    put_shown(out, first_shown_bytes(rest))?;
     out.push(b'\n')?;
     Ok(())
 }
 
-// Adds what comes below a source line: a bar, `column` blanks, and `length` marks, or as many as
-// fit under the part of the line that is shown, but at least one.
+// Adds to `out` what is printed below a source line: a bar, `column` blanks, and `length` times the
+// byte `mark`, or as often as fits under the part of the line that is shown, but at least once.
 fn put_marks(out: &mut Vec<u8>, column: usize, length: usize, mark: u8) -> Result<(), AllocError>
     ensures { Puts result out.old out.new (marks_line column length mark) }
 {
     out.extend_from_slice(b"      | ")?;
-    put_many(out, b' ', column)?;
-    put_many(out, mark, length.min(SHOWN.saturating_sub(column)).max(1))
+    put_copies(out, b' ', column)?;
+    put_copies(out, mark, length.min(SHOWN.saturating_sub(column)).max(1))
 }
 
-// Adds the bytes `first`, the message `said` and a line feed; the line feed alone if it is empty.
+// Adds to `out` the bytes `first`, the message `said` and a line feed; the line feed alone where
+// `said` is empty.
 fn put_message_line(out: &mut Vec<u8>, first: &[u8], said: &[u8]) -> Result<(), AllocError>
     ensures { Puts result out.old out.new (said_line first.now said.now) }
 {

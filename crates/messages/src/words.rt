@@ -5,7 +5,7 @@ ghost use Rattle.std.specs.Fmt.{decimal};
 
 use std::alloc::{AllocError, Global};
 
-/// A number in decimal.
+/// The decimal digits of a number, as a string.
 ///
 /// # Errors
 ///

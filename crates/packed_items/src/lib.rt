@@ -1,5 +1,5 @@
-//! Items of packed prefixes: a list of prefixes after which no thread sleeps stands for items of a
-//! program, which are made as they are asked for.
+//! Items that are stored packed: a list of prefixes, after which no thread sleeps, has an item of a
+//! program for each, which is made as it is asked for.
 #![tactic(auto)]
 
 ghost use Rattle.std.specs.Prelude.{◌≡◌, ◌+◌, ◌-◌, ◌<◌, ◌≤◌, [], ◌++◌, ◌∷◌, length, max, vec_len, take, drop, IfOk, OnOk, All};
@@ -10,17 +10,17 @@ ghost use Rattle.items.specs.Walks.{items_at};
 
 use guest_code::program::Program;
 use items::item::Item;
-use prefix_list::{LastFirst, Prefixes};
+use prefix_list::{Prefixes, Rev};
 use std::alloc::{AllocError, Global};
 use std::sync::Arc;
 
-/// Writes the items of a list's last `count` prefixes, in the list's order, over `items`, others of
-/// the program. All prefixes of the list run.
+/// Replaces `items`, which have to be of `program`, by those of a list's last `count` prefixes, in
+/// the list's order. All prefixes of the list have to run. The memory of `items` is used again.
 ///
 /// # Errors
 ///
 /// `AllocError` where memory runs out.
-pub fn write_last_items(
+pub fn unpack_last_into(
     alloc: Global,
     program: &Arc<Program>,
     prefixes: &Prefixes,
@@ -38,21 +38,21 @@ pub fn write_last_items(
     if count == 0 {
         return Ok(());
     }
-    let mut reading = prefixes.last_first(alloc)?;
+    let mut reading = prefixes.rev(alloc)?;
     for place in 0..count {
-        write_last_item(alloc, program, &reading, items, place)?;
+        set_or_push_item(alloc, program, &reading, items, place)?;
         reading.advance();
     }
     items.reverse();
     Ok(())
 }
 
-// Writes the item of the last prefix that `reading` has still to read over the item at a place, one
-// of the program, or at the end of `items` where there is none at that place.
-fn write_last_item(
+// Sets `items[place]` to the item of the reader's current prefix, in the memory that it has, or
+// appends that item where `place` is the length of `items`. All items have to be of `program`.
+fn set_or_push_item(
     alloc: Global,
     program: &Arc<Program>,
-    reading: &LastFirst<'_>,
+    reading: &Rev<'_>,
     items: &mut Vec<Item>,
     place: usize,
 ) -> Result<(), AllocError>
@@ -77,7 +77,7 @@ fn write_last_item(
     }
 }
 
-/// The item of the last of a list's prefixes.
+/// The item of the last of a list's prefixes. The list must have one, and its prefixes have to run.
 ///
 /// # Errors
 ///

@@ -31,13 +31,13 @@ pub enum PartError {
     OutOfMemory,
 }
 
-/// The message for the user: what is wrong with the line, and with which key, if with one.
 impl fmt::Display for PartError {
     ghost use Rattle.std.specs.Prelude.{Some};
     ghost use Rattle.parts.specs.ErrorTexts.{part_error_text};
 
     ghost output = { λ e. Some (part_error_text e) };
 
+    // The message for the user: what is wrong with the line, with the key that is missing or wrong.
     fn fmt<W: fmt::Write>(&self, f: &mut fmt::Formatter<W>) -> fmt::Result {
         match self {
             PartError::NotJson => write!(f, "no JSON"),
@@ -79,13 +79,14 @@ pub struct LineError {
     pub error: PartError,
 }
 
-/// The message for the user after the name of a file: the line's number, and what is wrong with it.
 impl fmt::Display for LineError {
     ghost use Rattle.std.specs.Prelude.{Some};
     ghost use Rattle.parts.specs.ErrorTexts.{line_error_text};
 
     ghost output = { λ e. Some (line_error_text e) };
 
+    // The message for the user, to follow the name of a file: the number of the line in it, and
+    // what is wrong with the line.
     fn fmt<W: fmt::Write>(&self, f: &mut fmt::Formatter<W>) -> fmt::Result {
         write!(f, "{}: {}", self.number, self.error)
     }

@@ -15,8 +15,8 @@ use std::alloc::Global;
 ///
 /// # Errors
 ///
-/// The number of the first line that is no part's, and why it is none; `OutOfMemory` with the line
-/// that was read where memory ran out.
+/// The number of the first line that is neither blank nor a part's, and what is wrong with it;
+/// `OutOfMemory` with the number of the line at which memory ran out.
 pub fn parts_from(alloc: Global, text: &[u8]) -> Result<Vec<Part>, LineError>
     ensures are_lines { IfOk result (λ parts.
         AreLinesOf (lines_of text.now) (map part_view parts.items)) }
@@ -29,16 +29,16 @@ pub fn parts_from(alloc: Global, text: &[u8]) -> Result<Vec<Part>, LineError>
     let mut number: u64 = 0;
     for line in text.split(|b| *b == b'\n') {
         number = number.saturating_add(1);
-        if let Err(error) = push_part(&mut parts, alloc, line) {
+        if let Err(error) = push_unless_blank(&mut parts, alloc, line) {
             return Err(LineError { number, error });
         }
     }
     Ok(parts)
 }
 
-// Reads the part of a line and pushes it to `parts`; of a blank line pushes none. An error where
-// the line is neither blank nor a part's, or memory runs out.
-fn push_part(parts: &mut Vec<Part>, alloc: Global, line: &[u8]) -> Result<(), PartError>
+// Pushes the part of a line to `parts`, or nothing where the line is blank. An error where the line
+// is neither blank nor a part's, or memory runs out.
+fn push_unless_blank(parts: &mut Vec<Part>, alloc: Global, line: &[u8]) -> Result<(), PartError>
     ensures is_line { OnOk result ((xs : List PartView) × AreLinesOf (line.now ∷ []) xs
         × (map part_view parts.new.items ≡ map part_view parts.old.items ++ xs)) }
     ensures reads { (xs : List PartView) → All IsPart xs → AreLinesOf (line.now ∷ []) xs →

@@ -23,7 +23,8 @@ pub fn part_line(alloc: Global, part: &Part) -> Result<Vec<u8>, AllocError>
     part_value(alloc, part)?.to_vec(alloc)
 }
 
-// The JSON object of a part, its keys in the order of their bytes.
+// The JSON object of a part, its keys in the order of their bytes; it has the key `cause` only if
+// the search was cut short.
 fn part_value(alloc: Global, part: &Part) -> Result<Value, AllocError>
     ensures { IfOk result (λ v. view v ≡ part_data (part_view part.now)) }
 {

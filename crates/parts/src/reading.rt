@@ -30,8 +30,8 @@ use serde_json::Value;
 use std::alloc::Global;
 use summary::{Counts, Summary};
 
-/// Reads a part from a line: from the JSON object that [`part_line`] prints of it, with any blanks
-/// between, and with its keys in any order.
+/// The part that a line spells: the line is JSON of the same value as what [`part_line`] prints of
+/// the part. Blanks, escapes in strings and the order of keys make no difference.
 ///
 /// # Errors
 ///
@@ -41,7 +41,7 @@ pub fn part_from(alloc: Global, line: &[u8]) -> Result<Part, PartError>
     ensures reads { (x : PartView) → IsPart x → IsLineOf line.now x →
         MatchResult result (λ y. part_view y ≡ x) (λ e. e ≡ OutOfMemory) }
 {
-    let value = value_of(alloc, line)?;
+    let value = parse_json(alloc, line)?;
     let part = Part {
         under: schedule_of(alloc, field(&value, "under")?, "under")?,
         level: level_of(alloc, &value)?,
@@ -51,8 +51,9 @@ pub fn part_from(alloc: Global, line: &[u8]) -> Result<Part, PartError>
     Ok(part)
 }
 
-// The JSON value that a line spells; `NotJson` where it spells none.
-fn value_of(alloc: Global, line: &[u8]) -> Result<Value, PartError>
+// The JSON value that a line spells; `NotJson` where it spells none, `OutOfMemory` where memory
+// runs out.
+fn parse_json(alloc: Global, line: &[u8]) -> Result<Value, PartError>
     ensures value { IfOk result (λ v. IsUtf8 line.now × (read line.now ≡ Some (view v))) }
     ensures nests { IfOk result (λ v. depth (view v) ≤ max_depth) }
     ensures refused { (d : Data) → IsUtf8 line.now → read line.now ≡ Some d →
@@ -68,7 +69,7 @@ fn value_of(alloc: Global, line: &[u8]) -> Result<Value, PartError>
     }
 }
 
-// The value of a key of a JSON object; `Missing` where it has no such key or is no object.
+// The value of a key of `object`; `Missing` where it has no such key or is no JSON object.
 fn field<'v>(object: &'v Value, key: &'static str) -> Result<&'v Value, PartError>
     ensures { (d : Data) → get key.now (view object.now) ≡ Some d →
         MatchResult result (λ v. view v.now ≡ d) (λ _. ⊥) }
@@ -80,7 +81,8 @@ fn field<'v>(object: &'v Value, key: &'static str) -> Result<&'v Value, PartErro
 }
 
 // The level that the JSON object of a part has: the bound, what was found at it, and why the search
-// was cut short there, if it was. An error where a key is missing or its value is wrong.
+// was cut short there, if it was. An error where a key is missing, a value is wrong, or the values
+// don't fit together.
 fn level_of(alloc: Global, object: &Value) -> Result<Level, PartError>
     ensures { (l : Level) → IsLevel l → HasLevel l (view object.now) →
         MatchResult result (λ found. found ≡ l) (λ e. e ≡ OutOfMemory) }
@@ -92,8 +94,8 @@ fn level_of(alloc: Global, object: &Value) -> Result<Level, PartError>
     })
 }
 
-// The summary that the JSON object of a part has; `Inconsistent` where the counts, the ends and the
-// first bad schedule don't fit one another.
+// The summary that the JSON object of a part has. An error where a key is missing or its value is
+// wrong, `Inconsistent` where counts, end views and first bad schedule don't fit together.
 fn summary_of(alloc: Global, object: &Value) -> Result<Summary, PartError>
     ensures { (l : Level) → IsLevel l → HasLevel l (view object.now) →
         MatchResult result (λ s. s ≡ l.summary) (λ e. e ≡ OutOfMemory) }
@@ -158,8 +160,8 @@ fn bound_of(value: &Value) -> Result<Option<u32>, PartError>
     }
 }
 
-// The value of the key `cause` as a cause, `None` where the key is missing; `Wrong` where it is
-// another value than the two words for causes.
+// The value of the key `cause`, as why a search was cut short; `None` where the key is missing,
+// `Wrong` where the value is neither the word `limit` nor the word `stopped`.
 fn cause_of(value: Option<&Value>) -> Result<Option<Cause>, PartError>
     ensures { (cause : Option Cause) →
         option_map (λ v. view v.now) value.entry ≡ option_map cause_data cause →
@@ -190,7 +192,8 @@ fn first_bad_of(alloc: Global, value: &Value) -> Result<Option<Vec<u8>>, PartErr
     Ok(Some(schedule_of(alloc, value, "schedule")?))
 }
 
-// The schedule that the value of this key spells, in any spelling; `Wrong` where it spells none.
+// The schedule that the value of this key spells, in any spelling; `Wrong` where it spells none, or
+// one that is too long.
 fn schedule_of(alloc: Global, value: &Value, key: &'static str) -> Result<Vec<u8>, PartError>
     ensures { (w : List ℕ) → IsSchedule w → view value.now ≡ schedule_data w →
         MatchResult result (λ v. v.items ≡ w) (λ e. e ≡ OutOfMemory) }
@@ -233,8 +236,8 @@ fn ends_of(alloc: Global, value: &Value) -> Result<Vec<EndView>, PartError>
     Ok(ends)
 }
 
-// An element of the list of ends as an end view: its `kind` and its `vars`. An error where one is
-// missing or wrong.
+// An element of the list of ends as an end view: its `kind` and its `vars`. An error where either
+// is missing or wrong.
 fn end_of(alloc: Global, value: &Value) -> Result<EndView, PartError>
     ensures { (v : View) → All (FitsSigned w64) v.vars → view value.now ≡ end_data v →
         MatchResult result (λ end. end ≡ v) (λ e. e ≡ OutOfMemory) }
@@ -245,7 +248,7 @@ fn end_of(alloc: Global, value: &Value) -> Result<EndView, PartError>
 }
 
 // The value of the key `kind` of an end view, as how a schedule ends; `Wrong` where it is none of
-// the three words for that.
+// the words `done`, `failed` and `stuck`.
 fn kind_of(value: &Value) -> Result<Kind, PartError>
     ensures { (kind : Kind) → view value.now ≡ kind_data kind →
         MatchResult result (λ found. found ≡ kind) (λ _. ⊥) }
@@ -301,9 +304,9 @@ fn guest_of(value: &Value) -> Result<GuestDigest, PartError>
     }
 }
 
-// Checks that printing a part that was read from this JSON gives the same JSON again, but for
-// blanks and the order of keys; `NotPrinted` where it doesn't: where there is a key more, or a
-// value is spelled in another way.
+// Checks that a part that was read from this JSON value is printed as the same value again;
+// `NotPrinted` where it isn't: the value has a key more, or spells a schedule or the digest in
+// another way.
 fn check_printed(alloc: Global, value: &Value, part: &Part) -> Result<(), PartError>
     requires { depth (view value.now) ≤ max_depth }
     ensures same { OnOk result (view value.now ≡ part_data (part_view part.now)) }

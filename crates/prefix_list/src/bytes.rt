@@ -1,12 +1,13 @@
-// The bytes of ways back, from a prefix to the one before it in a list.
+// The bytes of deltas. A delta turns a prefix of a list into the one before it: it says how many
+// steps to drop at the end, and has the steps to append.
 ghost use Rattle.std.specs.Prelude.{◌≡◌, ◌+◌, ◌-◌, ◌<◌, ◌≤◌, ◌++◌, length, take, drop, is_ok, OnOk, if◌then◌else◌, vec_len, vec_capacity, IsOk, IsTrue};
 ghost use Rattle.prefix_list.specs.inner.Packed.{way_bytes, dropped_of, start_of, end_of, number_at, before, head_of};
 ghost use Rattle.prefix_list.specs.PrefixLists.{common_length};
 
 use std::alloc::AllocError;
 
-// Whether two prefixes have the same eight steps from the place `at` on.
-fn has_same_eight(a: &[u8], b: &[u8], at: usize) -> bool
+// Whether two prefixes have the same eight steps from the index `at` on.
+fn have_same_eight(a: &[u8], b: &[u8], at: usize) -> bool
     requires in_a { at + 8 ≤ length a.now }
     requires in_b { at + 8 ≤ length b.now }
     ensures { IsTrue result → take 8 (drop at a.now) ≡ take 8 (drop at b.now) }
@@ -14,21 +15,21 @@ fn has_same_eight(a: &[u8], b: &[u8], at: usize) -> bool
     read_number(a, at) == read_number(b, at)
 }
 
-// A number of steps that two prefixes begin with alike, found eight by eight.
-fn shared_eights(a: &[u8], b: &[u8]) -> usize
+// How many steps two prefixes have in common at their start, rounded down to a multiple of eight.
+fn shared_len_by_eights(a: &[u8], b: &[u8]) -> usize
     ensures in_a { result ≤ length a.now }
     ensures in_b { result ≤ length b.now }
     ensures alike { take result a.now ≡ take result b.now }
 {
     let most = a.len().min(b.len());
     let mut n = 0;
-    while 8 <= most - n && has_same_eight(a, b, n) {
+    while 8 <= most - n && have_same_eight(a, b, n) {
         n += 8;
     }
     n
 }
 
-/// How many steps two prefixes begin with alike.
+/// How many steps two prefixes have in common at their start.
 pub fn shared_len(a: &[u8], b: &[u8]) -> usize
     ensures in_a { result ≤ length a.now }
     ensures in_b { result ≤ length b.now }
@@ -36,7 +37,7 @@ pub fn shared_len(a: &[u8], b: &[u8]) -> usize
     ensures all { result ≡ common_length a.now b.now }
 {
     let most = a.len().min(b.len());
-    let mut n = shared_eights(a, b);
+    let mut n = shared_len_by_eights(a, b);
     while n < most && a[n] == b[n] {
         n += 1;
     }
@@ -55,9 +56,10 @@ pub fn put_reserved(bytes: &mut Vec<u8>, more: &[u8])
     }
 }
 
-// Appends bytes to `bytes`: a few one by one, which takes less than one call for all.
+// Appends bytes to `bytes`. If there is room, fewer than 16 are pushed one by one, which takes less
+// time than one call for all.
 #[inline(always)]
-pub fn put_few(bytes: &mut Vec<u8>, more: &[u8]) -> Result<(), AllocError>
+pub fn put_bytes(bytes: &mut Vec<u8>, more: &[u8]) -> Result<(), AllocError>
     ensures items { OnOk result (bytes.new.items ≡ bytes.old.items ++ more.now) }
     ensures kept { take (length bytes.old.items) bytes.new.items ≡ bytes.old.items }
     ensures room { vec_capacity bytes.old ≤ vec_capacity bytes.new }
@@ -71,10 +73,11 @@ pub fn put_few(bytes: &mut Vec<u8>, more: &[u8]) -> Result<(), AllocError>
     Ok(())
 }
 
-// Whether the way back is short from a prefix, made of `shared` steps of the `last` one and the
-// `rest`, to the last one, and there is room for the prefix and for the way.
+// Whether `put_short_delta` can append a prefix, the first `shared` steps of `last` and then
+// `rest`: `last` has as many steps, there is room for the prefix and for the delta back to `last`,
+// and one byte can say how many steps that drops and appends.
 #[inline(always)]
-pub fn has_short_way(bytes: &Vec<u8>, last: &Vec<u8>, shared: usize, rest: &[u8]) -> bool
+pub fn can_put_short_delta(bytes: &Vec<u8>, last: &Vec<u8>, shared: usize, rest: &[u8]) -> bool
     ensures shared { IsTrue result → shared ≤ vec_len last.now }
     ensures tail { IsTrue result → vec_len last.now < shared + 16 }
     ensures rest { IsTrue result → length rest.now < 15 }
@@ -88,9 +91,10 @@ pub fn has_short_way(bytes: &Vec<u8>, last: &Vec<u8>, shared: usize, rest: &[u8]
         && bytes.capacity() - bytes.len() >= 16
 }
 
-// Appends to bytes with room for it a short way back: how many steps to drop, and what to put back.
+// Appends a delta to bytes that have room for it: the steps to append, `tail`, of which there are
+// fewer than 16, and one byte for their number and for that of the steps to drop, less than 15.
 #[inline(always)]
-pub fn put_short_way(bytes: &mut Vec<u8>, dropped: usize, tail: &[u8])
+pub fn put_short_delta(bytes: &mut Vec<u8>, dropped: usize, tail: &[u8])
     requires dropped { dropped < 15 }
     requires tail { length tail.now < 16 }
     requires room { vec_len bytes.old + 16 ≤ vec_capacity bytes.old }
@@ -100,14 +104,17 @@ pub fn put_short_way(bytes: &mut Vec<u8>, dropped: usize, tail: &[u8])
     bytes.push_reserved((dropped * 16 + tail.len()) as u8);
 }
 
-// Appends a way back: how many steps to drop, and the tail to put back. Fails with a part written.
-fn write_way(bytes: &mut Vec<u8>, dropped: usize, tail: &[u8]) -> Result<(), AllocError>
+// Appends a delta: the steps to append, `tail`, then how many steps to drop and how many `tail`
+// has. Where these are small, one byte has both, and is less than 240; else each is eight bytes,
+// with a byte 255 after them. The last byte tells which, since deltas are read from the end. Where
+// memory runs out, a part of the delta may be appended.
+fn put_delta_or_part(bytes: &mut Vec<u8>, dropped: usize, tail: &[u8]) -> Result<(), AllocError>
     ensures done { OnOk result (bytes.new.items ≡ bytes.old.items ++ way_bytes dropped tail.now) }
     ensures kept { take (length bytes.old.items) bytes.new.items ≡ bytes.old.items }
 {
     let steps = tail.len();
     if dropped < 15 && steps < 16 {
-        put_few(bytes, tail)?;
+        put_bytes(bytes, tail)?;
         bytes.push((dropped * 16 + steps) as u8)?;
     } else {
         bytes.extend_from_slice(tail)?;
@@ -118,13 +125,14 @@ fn write_way(bytes: &mut Vec<u8>, dropped: usize, tail: &[u8]) -> Result<(), All
     Ok(())
 }
 
-// Appends a way back: how many steps to drop, and the tail to put back; nothing if memory runs out.
-pub fn put_way(bytes: &mut Vec<u8>, dropped: usize, tail: &[u8]) -> Result<(), AllocError>
+// Appends a delta, of how many steps to drop and the steps `tail` to append, as `put_delta_or_part`
+// does; but where memory runs out, nothing is appended.
+pub fn put_delta(bytes: &mut Vec<u8>, dropped: usize, tail: &[u8]) -> Result<(), AllocError>
     ensures { bytes.new.items ≡ (if is_ok result then bytes.old.items
         ++ way_bytes dropped tail.now else bytes.old.items) }
 {
     let len = bytes.len();
-    match write_way(bytes, dropped, tail) {
+    match put_delta_or_part(bytes, dropped, tail) {
         Ok(()) => Ok(()),
         Err(error) => {
             bytes.truncate(len);
@@ -133,7 +141,7 @@ pub fn put_way(bytes: &mut Vec<u8>, dropped: usize, tail: &[u8]) -> Result<(), A
     }
 }
 
-// The number that the eight bytes from the place `at` on spell, the lowest byte first.
+// The little-endian number in the eight bytes from `at` on; being eight, they always convert.
 fn read_number(bytes: &[u8], at: usize) -> usize
     requires { at + 8 ≤ length bytes.now }
     ensures { result ≡ number_at at bytes.now }
@@ -144,15 +152,15 @@ fn read_number(bytes: &[u8], at: usize) -> usize
     }
 }
 
-// A way back: how many steps to take away, and where those to put back stand.
+// A delta: how many steps to drop, and from where to where in the bytes the steps to append stand.
 #[derive(Clone, Copy, Drop)]
-pub struct WayBack {
+pub struct Delta {
     pub dropped: usize,
     pub start: usize,
     pub end: usize,
 }
 
-// The last of some bytes, which says what way back is on top; 0 where there is no byte.
+// The last of some bytes, which tells how the delta at their end is written; 0 where there is none.
 fn last_byte(bytes: &[u8]) -> usize
     ensures { result ≡ head_of bytes.now }
 {
@@ -163,9 +171,11 @@ fn last_byte(bytes: &[u8]) -> usize
     }
 }
 
-// The way back on top of some bytes: that which was appended last.
+// The delta at the end of some bytes, the one that was appended last: a long one, with 17 bytes of
+// numbers, if the last byte is 240 or more. Where there are no bytes, or too few for a long one, it
+// is a delta that changes nothing.
 #[tactic(auto, using(std::proofs::lemmas::Bool::Decides::nat_tests), unfolding(crate::specs::inner::Packed::dropped_of, crate::specs::inner::Packed::end_of, crate::specs::inner::Packed::start_of))]
-pub fn top_way(bytes: &[u8]) -> WayBack
+pub fn last_delta(bytes: &[u8]) -> Delta
     ensures dropped { result.dropped ≡ dropped_of bytes.now }
     ensures start { result.start ≡ start_of bytes.now }
     ensures end { result.end ≡ end_of bytes.now }
@@ -176,29 +186,31 @@ pub fn top_way(bytes: &[u8]) -> WayBack
     let head = last_byte(bytes);
     if head < 240 {
         let end = len.saturating_sub(1);
-        return WayBack {
+        return Delta {
             dropped: head / 16,
             start: end.saturating_sub(head % 16),
             end,
         };
     }
     if len < 17 {
-        return WayBack {
+        return Delta {
             dropped: 0,
             start: 0,
             end: 0,
         };
     }
     let end = len - 17;
-    WayBack {
+    Delta {
         dropped: read_number(bytes, end),
         start: end.saturating_sub(read_number(bytes, len - 9)),
         end,
     }
 }
 
-// Turns the last prefix into the one before in the list, by the way back on top of `bytes`: `top`.
-pub fn step_back(bytes: &[u8], top: WayBack, last: &mut Vec<u8>) -> Result<(), AllocError>
+// Turns the last prefix of a list into the one before it. `top` is the delta for that, at the end
+// of `bytes`: drops the last `top.dropped` steps, then appends `bytes[top.start..top.end]`. It can
+// fail only where `last` has no room for the result.
+pub fn restore_previous(bytes: &[u8], top: Delta, last: &mut Vec<u8>) -> Result<(), AllocError>
     requires dropped { top.dropped ≡ dropped_of bytes.now }
     requires start { top.start ≡ start_of bytes.now }
     requires end { top.end ≡ end_of bytes.now }

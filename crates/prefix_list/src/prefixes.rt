@@ -1,25 +1,27 @@
-//! The packed list, and a reader of it from the last prefix on.
+//! The packed list, and a reader of it in reverse order.
 
 ghost use Rattle.std.specs.Prelude.{◌≡◌, ℕ, ◌-◌, ◌^◌, ◌<◌, ◌≤◌, ◌==◌, ◌↔◌, List, [], ◌∷◌, ◌++◌, length, take, drop, is_ok, IfOk, OnOk, IfSome, IfNone, IsTrue, All, Some, if◌then◌else◌, option_copied, slice_get, vec_capacity};
 ghost use Rattle.prefix_list.specs.inner.Packed.{AreWaysOn, WentBack};
 ghost use Rattle.prefix_list.specs.PrefixLists.{last_of};
 
 use crate::bytes::{
-    has_short_way, put_few, put_reserved, put_short_way, put_way, shared_len, step_back, top_way,
+    can_put_short_delta, last_delta, put_bytes, put_delta, put_reserved, put_short_delta,
+    restore_previous, shared_len,
 };
 use crate::seeker::Seeker;
 use std::alloc::{AllocError, Global};
 use std::marker::Model;
 use std::mem;
 
-// For how many steps more than the first prefix has a list begins with room, so it seldom grows.
+// How many steps more than those of its first prefix a list has room for in `last` at first.
 const MORE_STEPS: usize = 32;
 
-// For how many bytes of ways back a list begins with room, so that a short list seldom grows.
+// How many bytes of deltas `bytes` has room for at first, so that those of a short list fit.
 const MORE_BYTES: usize = 96;
 
-/// A list of prefixes. Contracts see `List (List ℕ)`. The bytes are the first prefix, which ends at
-/// `front`, and the ways back. Where the last prefix stands there is room for each.
+/// A list of prefixes. Contracts see `List (List ℕ)`. `bytes` are the first prefix, which ends at
+/// `front`, and the deltas of all but the last prefix. `last` is the last prefix, and has room for
+/// each of the others.
 #[derive(Drop)]
 pub struct Prefixes {
     count: usize,
@@ -42,7 +44,7 @@ impl Model for Prefixes {
 }
 
 impl Prefixes {
-    /// A list of no prefix.
+    /// An empty list, which takes no memory.
     pub fn new(alloc: Global) -> Prefixes
         ensures { result ≡ [] }
     {
@@ -69,7 +71,7 @@ impl Prefixes {
         self.count == 0
     }
 
-    /// The last prefix.
+    /// The last prefix; `None` where there is none.
     pub fn last(&self) -> Option<&[u8]>
         ensures { option_copied result ≡ slice_get self.now (length self.now - 1) }
     {
@@ -80,7 +82,8 @@ impl Prefixes {
         }
     }
 
-    /// A place of a prefix, counted from 0, looked for from the last on. It takes no memory.
+    /// The place of a prefix in the list, counted from 0: the last one, where the list has it more
+    /// than once; `None` where the list doesn't have it. It takes no memory.
     pub fn position(&self, prefix: &[u8]) -> Option<usize>
         ensures some { IfSome result (λ k.
             (k < length self.now) × (slice_get self.now k ≡ Some prefix.now)) }
@@ -97,24 +100,25 @@ impl Prefixes {
             if seeker.has_found(prefix) {
                 return Some(place);
             }
-            seeker = seeker.before(prefix);
+            seeker = seeker.at_previous(prefix);
         }
         None
     }
 
-    /// Takes the last prefix away. It takes no memory.
+    /// Removes the last prefix of a list, which must not be empty. It takes no memory: `last` has
+    /// room for each prefix.
     pub fn pop(&mut self)
         requires { 0 < length self.old }
         ensures { self.new ≡ take (length self.old - 1) self.old }
     {
-        let ways = &self.bytes[self.front..];
-        let top = top_way(ways);
-        let _ = step_back(ways, top, &mut self.last);
+        let deltas = &self.bytes[self.front..];
+        let top = last_delta(deltas);
+        let _ = restore_previous(deltas, top, &mut self.last);
         self.bytes.truncate(self.front + top.start);
         self.count -= 1;
     }
 
-    /// Keeps the first prefixes, up to `length` of them. It takes no memory.
+    /// Keeps the first prefixes, at most `length`, and removes the others. It takes no memory.
     pub fn truncate(&mut self, length: usize)
         ensures { self.new ≡ take length self.old }
     {
@@ -123,7 +127,7 @@ impl Prefixes {
         }
     }
 
-    /// Takes all prefixes away, and keeps the list's memory.
+    /// Removes all prefixes, and keeps the list's memory. Bytes left there mean nothing.
     pub fn clear(&mut self)
         ensures { self.new ≡ [] }
     {
@@ -145,9 +149,9 @@ impl Prefixes {
         self.push_after(shared, &prefix[shared..])
     }
 
-    /// Appends a prefix that begins with the first `shared` steps of the last one, and then goes on
-    /// with the rest, which is compared with nothing. Mostly the way back is short, and there is
-    /// room.
+    /// Appends a prefix: the first `shared` steps of the last one, or all where it has fewer, and
+    /// then the `rest`. It doesn't look whether the two have more steps in common. Tests the usual
+    /// case first: the delta is short, and there is room.
     ///
     /// # Errors
     ///
@@ -157,19 +161,20 @@ impl Prefixes {
         ensures { self.new ≡ (if is_ok result
             then self.old ++ (take shared (last_of self.old) ++ rest.now) ∷ [] else self.old) }
     {
-        if self.count != 0 && has_short_way(&self.bytes, &self.last, shared, rest) {
-            put_short_way(&mut self.bytes, rest.len(), &self.last[shared..]);
+        if self.count != 0 && can_put_short_delta(&self.bytes, &self.last, shared, rest) {
+            put_short_delta(&mut self.bytes, rest.len(), &self.last[shared..]);
             self.last.truncate(shared);
             put_reserved(&mut self.last, rest);
             self.count += 1;
             return Ok(());
         }
-        self.push_long(shared, rest)
+        self.push_after_slow(shared, rest)
     }
 
-    // Appends a prefix as `push_after` does, also if the way back is long or there is no room yet.
+    // Appends a prefix as [`Prefixes::push_after`] does, in any case: the list may be empty, the
+    // delta long, and memory may have to be got.
     #[inline(never)]
-    fn push_long(&mut self, shared: usize, rest: &[u8]) -> Result<(), AllocError>
+    fn push_after_slow(&mut self, shared: usize, rest: &[u8]) -> Result<(), AllocError>
         ensures { self.new ≡ (if is_ok result
             then self.old ++ (take shared (last_of self.old) ++ rest.now) ∷ [] else self.old) }
     {
@@ -178,14 +183,14 @@ impl Prefixes {
         }
         let shared = shared.min(self.last.len());
         self.last.reserve(rest.len())?;
-        put_way(&mut self.bytes, rest.len(), &self.last[shared..])?;
+        put_delta(&mut self.bytes, rest.len(), &self.last[shared..])?;
         self.last.truncate(shared);
-        let _ = put_few(&mut self.last, rest);
+        let _ = put_bytes(&mut self.last, rest);
         self.count += 1;
         Ok(())
     }
 
-    // Puts the first prefix into an empty list.
+    // Appends a prefix to an empty list, and gets room for more. On an error the list stays empty.
     fn push_first(&mut self, prefix: &[u8]) -> Result<(), AllocError>
         requires { self.old ≡ [] }
         ensures { self.new ≡ (if is_ok result then prefix.now ∷ [] else []) }
@@ -221,7 +226,7 @@ impl Prefixes {
         self.last.reserve(room.saturating_sub(self.last.len()))?;
         let shared = shared_len(self.last.as_slice(), &other.bytes[..other.front]);
         let len = self.bytes.len();
-        put_way(&mut self.bytes, other.front - shared, &self.last[shared..])?;
+        put_delta(&mut self.bytes, other.front - shared, &self.last[shared..])?;
         if let Err(error) = self.bytes.extend_from_slice(&other.bytes[other.front..]) {
             self.bytes.truncate(len);
             return Err(error);
@@ -232,8 +237,8 @@ impl Prefixes {
         Ok(())
     }
 
-    /// Moves the last prefixes, at most `count` of them, into another list, in place of what is
-    /// there. The memory of both lists serves both.
+    /// Moves the last prefixes, at most `count` of them, into another list, in place of those it
+    /// has. The memory that both lists have is used again.
     ///
     /// # Errors
     ///
@@ -253,11 +258,13 @@ impl Prefixes {
             mem::swap(self, other);
             return Ok(());
         }
-        self.split_some(count, other)
+        self.split_last_some(count, other)
     }
 
-    // Moves the last `count` prefixes, some and not all, into another list, in place of its own.
-    fn split_some(&mut self, count: usize, other: &mut Prefixes) -> Result<(), AllocError>
+    // Moves the last `count` prefixes, at least one but not all, into another list, in place of
+    // those it has. For that, `last` goes back to the first prefix that moves, then to the one
+    // before it. Where memory runs out, this list is as before, and the other one is empty.
+    fn split_last_some(&mut self, count: usize, other: &mut Prefixes) -> Result<(), AllocError>
         requires some { 0 < count }
         requires few { count < length self.old }
         ensures kept { self.new ≡ (if is_ok result
@@ -270,22 +277,22 @@ impl Prefixes {
         other.last.clear();
         other.last.reserve(self.last.capacity())?;
         let _ = other.last.extend_from_slice(self.last.as_slice());
-        let ways = &self.bytes[self.front..];
-        let at = go_back(ways, count - 1, &mut self.last);
-        if let Err(error) = put_first(&mut other.bytes, self.last.as_slice(), &ways[at..]) {
+        let deltas = &self.bytes[self.front..];
+        let at = go_back(deltas, count - 1, &mut self.last);
+        if let Err(error) = set_bytes(&mut other.bytes, self.last.as_slice(), &deltas[at..]) {
             self.last.clear();
             let _ = self.last.extend_from_slice(other.last.as_slice());
             return Err(error);
         }
         other.front = self.last.len();
         other.count = count;
-        let end = go_back(&ways[..at], 1, &mut self.last);
+        let end = go_back(&deltas[..at], 1, &mut self.last);
         self.bytes.truncate(self.front + end);
         self.count -= count;
         Ok(())
     }
 
-    /// Makes the list equal to another one, in the memory that it has.
+    /// Makes the list equal to another one, in the memory that this one has.
     ///
     /// # Errors
     ///
@@ -305,8 +312,8 @@ impl Prefixes {
         Ok(())
     }
 
-    /// Whether another list has the same bytes. Then it has the same prefixes; two lists of the
-    /// same prefixes may have other bytes.
+    /// Whether another list has the same bytes. If so, it has the same prefixes; but two lists of
+    /// the same prefixes may have different bytes.
     pub fn has_same_bytes(&self, other: &Prefixes) -> bool
         ensures { IsTrue result → self.now ≡ other.now }
     {
@@ -334,16 +341,17 @@ impl Prefixes {
         })
     }
 
-    /// The prefixes, to be read from the last on.
+    /// A reader of the prefixes in reverse order, from the last to the first. It takes memory for a
+    /// copy of the last prefix, which it turns into each earlier one; the list stays as it is.
     ///
     /// # Errors
     ///
     /// `AllocError` where memory runs out.
-    pub fn last_first(&self, alloc: Global) -> Result<LastFirst<'_>, AllocError>
+    pub fn rev(&self, alloc: Global) -> Result<Rev<'_>, AllocError>
         ensures { IfOk result (λ r. r ≡ self.now) }
     {
         let last = copy_with_room(alloc, self.last.as_slice(), self.last.capacity())?;
-        Ok(LastFirst {
+        Ok(Rev {
             count: self.count,
             bytes: &self.bytes[self.front..],
             last,
@@ -352,34 +360,32 @@ impl Prefixes {
     }
 }
 
-// Goes back from the last prefix by `count` ways, and answers where the ways end that are left.
-fn go_back(ways: &[u8], count: usize, last: &mut Vec<u8>) -> usize
-    requires { AreWaysOn ways.now count last.old.items (vec_capacity last.old) }
-    ensures back { (w : AreWaysOn ways.now count last.old.items (vec_capacity last.old)) →
-        WentBack w.ways ways.now count last.old.items result last.new.items
+// Turns the last prefix of a list into the one `count` places before it, by the last `count` deltas
+// in `deltas`. Answers the index at which these begin. `last` has to have room for each prefix.
+fn go_back(deltas: &[u8], count: usize, last: &mut Vec<u8>) -> usize
+    requires { AreWaysOn deltas.now count last.old.items (vec_capacity last.old) }
+    ensures back { (w : AreWaysOn deltas.now count last.old.items (vec_capacity last.old)) →
+        WentBack w.ways deltas.now count last.old.items result last.new.items
         (vec_capacity last.old) }
     ensures room { vec_capacity last.old ≤ vec_capacity last.new }
 {
-    let mut at = ways.len();
+    let mut at = deltas.len();
     for _ in 0..count {
-        let top = top_way(&ways[..at]);
-        let _ = step_back(&ways[..at], top, last);
+        let top = last_delta(&deltas[..at]);
+        let _ = restore_previous(&deltas[..at], top, last);
         at = top.start;
     }
     at
 }
 
-// Writes a first prefix and the ways back to it in place of what is in `bytes`.
-//
-// # Errors
-//
-// `AllocError` where memory runs out.
-fn put_first(bytes: &mut Vec<u8>, first: &[u8], ways: &[u8]) -> Result<(), AllocError>
-    ensures { OnOk result (bytes.new.items ≡ first.now ++ ways.now) }
+// Replaces `bytes` by a list's first prefix and `deltas`, those of all its prefixes but the last.
+// Where memory runs out, some of that may be there.
+fn set_bytes(bytes: &mut Vec<u8>, first: &[u8], deltas: &[u8]) -> Result<(), AllocError>
+    ensures { OnOk result (bytes.new.items ≡ first.now ++ deltas.now) }
 {
     bytes.clear();
     bytes.extend_from_slice(first)?;
-    bytes.extend_from_slice(ways)
+    bytes.extend_from_slice(deltas)
 }
 
 // Whether two slices have the same bytes.
@@ -389,7 +395,7 @@ fn is_equal(first: &[u8], second: &[u8]) -> bool
     first == second
 }
 
-// A copy of a prefix, with room for one of `longest` steps.
+// A copy of a prefix, with room for `longest` steps in all.
 fn copy_with_room(alloc: Global, prefix: &[u8], longest: usize) -> Result<Vec<u8>, AllocError>
     ensures prefix { IfOk result (λ v. v.items ≡ prefix.now) }
     ensures room { IfOk result (λ v. longest ≤ vec_capacity v) }
@@ -399,17 +405,17 @@ fn copy_with_room(alloc: Global, prefix: &[u8], longest: usize) -> Result<Vec<u8
     Ok(copy)
 }
 
-/// The prefixes of a list, read from the last on. Contracts see those that are still to be read, in
-/// the order of the list.
+/// A reader of a list's prefixes in reverse order. Contracts see those that are still to be read,
+/// in the order of the list.
 #[derive(Drop)]
-pub struct LastFirst<'a> {
+pub struct Rev<'a> {
     count: usize,
     bytes: &'a [u8],
     last: Vec<u8>,
     first: &'a [u8],
 }
 
-impl<'a> Model for LastFirst<'a> {
+impl<'a> Model for Rev<'a> {
     ghost use Rattle.std.specs.Prelude.{List, ℕ, vec_capacity};
     ghost use Rattle.prefix_list.specs.inner.Packed.{listed, IsPacked};
 
@@ -421,7 +427,7 @@ impl<'a> Model for LastFirst<'a> {
         (vec_capacity p.last) };
 }
 
-impl<'a> LastFirst<'a> {
+impl<'a> Rev<'a> {
     /// How many prefixes are still to be read.
     pub fn len(&self) -> usize
         ensures { result ≡ length self.now }
@@ -429,7 +435,7 @@ impl<'a> LastFirst<'a> {
         self.count
     }
 
-    /// The last of the prefixes that are still to be read.
+    /// The current prefix: the last of those that are still to be read. `None` where all are read.
     pub fn prefix(&self) -> Option<&[u8]>
         ensures { option_copied result ≡ slice_get self.now (length self.now - 1) }
     {
@@ -440,13 +446,14 @@ impl<'a> LastFirst<'a> {
         }
     }
 
-    /// Goes on to the prefix before. It takes no memory.
+    /// Goes on from the current prefix, which there has to be, to the one before it in the list;
+    /// that is made in memory that the reader has.
     pub fn advance(&mut self)
         requires { 0 < length self.old }
         ensures { self.new ≡ take (length self.old - 1) self.old }
     {
-        let top = top_way(self.bytes);
-        let _ = step_back(self.bytes, top, &mut self.last);
+        let top = last_delta(self.bytes);
+        let _ = restore_previous(self.bytes, top, &mut self.last);
         self.bytes = &self.bytes[..top.start];
         self.count -= 1;
     }

@@ -1,12 +1,12 @@
-// A search for a prefix in a packed list, from the last on.
+// A search for a prefix in a packed list, from the last prefix to the first.
 ghost use Rattle.std.specs.Prelude.{◌≡◌, ℕ, ◌+◌, ◌-◌, ◌^◌, ◌<◌, ◌≤◌, ◌↔◌, List, length, IsTrue};
 ghost use Rattle.prefix_list.specs.inner.Packed.{dropped_of, start_of, end_of, before, below_of};
 ghost use Rattle.prefix_list.specs.PrefixLists.{common_length};
 
-use crate::bytes::{shared_len, top_way};
+use crate::bytes::{last_delta, shared_len};
 
-// Where a search stands. It takes no memory: of the prefix there it knows how many steps it has,
-// and how many of them are those that the wanted one begins with.
+// A search that has come to a prefix of a list: of that prefix it knows how many steps it has, and
+// how many of them it has in common with the wanted one at their start. It takes no memory.
 #[derive(Clone, Copy, Drop)]
 pub struct Seeker<'a> {
     pub bytes: &'a [u8],
@@ -15,7 +15,7 @@ pub struct Seeker<'a> {
 }
 
 impl<'a> Seeker<'a> {
-    // Whether the prefix at which the search stands is the wanted one.
+    // Whether the prefix to which the search has come is the wanted one.
     pub fn has_found(&self, wanted: &[u8]) -> bool
         ensures { IsTrue result ↔ ((self.now.shared ≡ self.now.steps)
             × (self.now.steps ≡ length wanted.now)) }
@@ -23,8 +23,10 @@ impl<'a> Seeker<'a> {
         self.shared == self.steps && self.steps == wanted.len()
     }
 
-    // The seeker at the prefix before, by the way on top of the bytes.
-    pub fn before(&self, wanted: &[u8]) -> Seeker<'a>
+    // The search, gone on to the prefix before the current one in the list, which the delta at the
+    // end of `bytes` makes of it. Where the delta keeps more steps than are shared, as many are
+    // shared as before; else the steps that it appends are compared with the wanted ones.
+    pub fn at_previous(&self, wanted: &[u8]) -> Seeker<'a>
         requires shared { self.now.shared ≤ length wanted.now }
         requires fits { self.now.steps - dropped_of self.now.bytes.now
             + (end_of self.now.bytes.now - start_of self.now.bytes.now) < 2 ^ 64 }
@@ -36,7 +38,7 @@ impl<'a> Seeker<'a> {
             result.shared ≡ common_length (before self.now.bytes.now last) wanted.now }
         ensures within { result.shared ≤ length wanted.now }
     {
-        let top = top_way(self.bytes);
+        let top = last_delta(self.bytes);
         let bytes = &self.bytes[..top.start];
         let kept = self.steps.saturating_sub(top.dropped);
         let tail = &self.bytes[top.start..top.end];

@@ -6,7 +6,7 @@ ghost use Rattle.schedules.specs.Execution.{IsExecutionOf};
 use crate::runs::{program_of, state_after};
 use guest_code::program::Program;
 use schedules::execution::Execution;
-use schedules::independence::{independent, sleepers_after};
+use schedules::independence::{independent, sleep_set_after};
 use semantics::mask::Mask;
 use semantics::state::State;
 use std::alloc::{AllocError, Global};
@@ -17,7 +17,8 @@ use std::test::*;
 const COUNTERS: &[u8] =
     b"var x; thread A { load r x; set r r + 1; store x r; } thread B { load r x; set r r + 1; store x r; }";
 
-// The execution of a schedule each of whose threads is enabled in its turn.
+// The execution of a schedule. Checks that each thread is enabled in its turn, and that there are
+// never more preemptions than the schedule has steps.
 fn execution_of(
     rt: &impl Abort,
     alloc: Global,
@@ -29,7 +30,7 @@ fn execution_of(
     let mut execution = Execution::start(alloc, p)?;
     for t in schedule {
         assert!(rt;
-            execution.state().enabled(p).contains(*t),
+            execution.state().enabled(p).has(*t),
             "{t} of {schedule:?} is not enabled"
         );
         assert!(rt; execution.preemptions() <= schedule.len());
@@ -73,8 +74,8 @@ const SCHEDULES: [ScheduleRow; 5] = [
     },
 ];
 
-// Compares the last thread and the preemptions of an execution with those of a row.
-fn check_execution(rt: &impl Abort, execution: &Execution, row: &ScheduleRow) {
+// Checks that an execution has the last thread and the number of preemptions that a row says.
+fn check_last_and_preemptions(rt: &impl Abort, execution: &Execution, row: &ScheduleRow) {
     assert_eq!(rt; execution.last(), row.last, "{:?}", row.schedule);
     assert_eq!(rt;
         execution.preemptions(),
@@ -84,17 +85,18 @@ fn check_execution(rt: &impl Abort, execution: &Execution, row: &ScheduleRow) {
     );
 }
 
-// Compares the execution of a row's schedule, and a copy of that, with the row and with the state.
+// Checks that the execution of a row's schedule and its copy have the last thread and preemptions
+// of the row, and that the execution has the variables of the state after the schedule.
 fn check_row(rt: &impl Abort, alloc: Global, p: &Program, row: &ScheduleRow) -> Result<(), Fail> {
     let execution = execution_of(rt, alloc, p, row.schedule)?;
-    check_execution(rt, &execution, row);
+    check_last_and_preemptions(rt, &execution, row);
     check_variables(rt, alloc, p, row.schedule, &execution)?;
     let copy = execution.try_clone(alloc)?;
-    check_execution(rt, &copy, row);
+    check_last_and_preemptions(rt, &copy, row);
     Ok(())
 }
 
-// Compares the variables of a schedule's execution with those of the state after the schedule.
+// Checks that a schedule's execution has the variables of the state after the schedule.
 fn check_variables(
     rt: &impl Abort,
     alloc: Global,
@@ -111,6 +113,7 @@ fn check_variables(
     Ok(())
 }
 
+// Each schedule of `SCHEDULES` has the last thread and the number of preemptions of its row.
 #[test]
 fn preemptions_of_executions(rt: HostRuntime) -> Result<(), Fail> {
     let p = program_of(rt.alloc(), COUNTERS)?;
@@ -120,6 +123,7 @@ fn preemptions_of_executions(rt: HostRuntime) -> Result<(), Fail> {
     Ok(())
 }
 
+// After a step of thread 0, one of thread 1 would be a preemption, and another of 0 wouldn't.
 #[test]
 fn what_would_preempt(rt: HostRuntime) -> Result<(), Fail> {
     let p = program_of(rt.alloc(), COUNTERS)?;
@@ -186,21 +190,22 @@ const PAIRS: [(&[u8], bool); 14] = [
     ),
 ];
 
-// Whether the opening steps of two threads are independent; none where the answer is another for
-// the other order of the two, or for whether the first sleeps after the second's step.
+// Whether the opening steps of threads 0 and 1 are independent. `None` where the answer differs if
+// the two are swapped, or from whether thread 0 sleeps after the step of thread 1.
 fn pair_independence(alloc: Global, p: &Program) -> Result<Option<bool>, AllocError>
     requires { 2 ≤ length p.now.threads }
 {
     let state = State::start(alloc, p)?;
     let apart = independent(p, &state, 0, 1);
-    let sleepers = sleepers_after(p, &state, state.enabled(p), Mask::empty(), 1);
-    if independent(p, &state, 1, 0) != apart || sleepers.contains(0) != apart {
+    let sleepers = sleep_set_after(p, &state, state.enabled(p), Mask::empty(), 1);
+    if independent(p, &state, 1, 0) != apart || sleepers.has(0) != apart {
         return Ok(None);
     }
     Ok(Some(apart))
 }
 
-// Compares whether the opening steps of a text's two threads are independent.
+// Checks that a text has two threads, and that their opening steps are independent, or not, as
+// `apart` says.
 fn check_pair(rt: &impl Abort, alloc: Global, text: &[u8], apart: bool) -> Result<(), Fail> {
     let p = program_of(alloc, text)?;
     assert!(rt; p.threads() == 2);
@@ -208,6 +213,7 @@ fn check_pair(rt: &impl Abort, alloc: Global, text: &[u8], apart: bool) -> Resul
     Ok(())
 }
 
+// In each text of `PAIRS`, the two opening steps are independent, or not, as the row says.
 #[test]
 fn pairs_of_independent_steps(rt: HostRuntime) -> Result<(), Fail> {
     for (text, apart) in &PAIRS {

@@ -9,6 +9,7 @@ use std::test::*;
 /// A thread that locks a mutex twice.
 const TWICE: &[u8] = b"mutex m; thread A { lock m;\n lock m; }";
 
+// After its first `lock`, thread 0 waits for mutex 0. Its second one is instruction 1, on line 2.
 #[test]
 fn a_thread_that_locks_twice_waits_for_itself(rt: HostRuntime) -> Result<(), Fail> {
     let alloc = rt.alloc();

@@ -94,7 +94,7 @@ p == 2; } } thread Madvise { store pte 0; }",
     steps: &[0, 1, 2, 3, 4, 5, 6, 7, 8, 9],
 };
 
-// The steps in the cause of how the schedule of an example ends.
+// The steps that are in the cause of how an example's schedule ends, by their places from 0 on.
 fn steps_in_cause(alloc: Global, example: &CauseExample) -> Result<Vec<usize>, Fail> {
     let Ok(tree) = parse(alloc, example.text) else {
         return Err(Fail::new("the text spells no tree"));
@@ -105,7 +105,7 @@ fn steps_in_cause(alloc: Global, example: &CauseExample) -> Result<Vec<usize>, F
     let told = Explanation::new(alloc, &program, example.schedule)?;
     let causes = Causes::of(alloc, &program, &told)?;
     let mut steps = Vec::new(alloc);
-    for (at, mark) in causes.steps().iter().enumerate() {
+    for (at, mark) in causes.step_marks().iter().enumerate() {
         if *mark {
             steps.push(at)?;
         }
@@ -113,6 +113,8 @@ fn steps_in_cause(alloc: Global, example: &CauseExample) -> Result<Vec<usize>, F
     Ok(steps)
 }
 
+// A's assertion on `x` fails. B's write of `x` (step 2) is in the cause, though A overwrote it; B's
+// write of `y` (step 1) isn't.
 #[test]
 fn a_lost_write_is_in_the_cause(rt: HostRuntime) -> Result<(), Fail> {
     let steps = steps_in_cause(rt.alloc(), &LOST)?;
@@ -120,6 +122,8 @@ fn a_lost_write_is_in_the_cause(rt: HostRuntime) -> Result<(), Fail> {
     Ok(())
 }
 
+// B waits for a mutex that A keeps. A's lock (step 1) and the read by which A skips its unlock
+// (step 2) are in the cause; A's write of `y` (step 0) isn't.
 #[test]
 fn a_mutex_that_is_kept_is_in_the_cause(rt: HostRuntime) -> Result<(), Fail> {
     let steps = steps_in_cause(rt.alloc(), &KEPT)?;
@@ -127,6 +131,8 @@ fn a_mutex_that_is_kept_is_in_the_cause(rt: HostRuntime) -> Result<(), Fail> {
     Ok(())
 }
 
+// B waits for a unit that A took (step 0). The read by which A skips its release (step 1) is in the
+// cause, too; B's write of `y` (step 2) isn't.
 #[test]
 fn a_release_that_is_passed_by_is_in_the_cause(rt: HostRuntime) -> Result<(), Fail> {
     let steps = steps_in_cause(rt.alloc(), &TAKEN)?;
@@ -134,6 +140,7 @@ fn a_release_that_is_passed_by_is_in_the_cause(rt: HostRuntime) -> Result<(), Fa
     Ok(())
 }
 
+// A unlocks (step 2) what B locked (step 0), and stops: both are in the cause. No other step is.
 #[test]
 fn what_is_on_a_mutex_that_is_not_held_is_in_the_cause(rt: HostRuntime) -> Result<(), Fail> {
     let steps = steps_in_cause(rt.alloc(), &NOT_HELD)?;
@@ -141,6 +148,8 @@ fn what_is_on_a_mutex_that_is_not_held_is_in_the_cause(rt: HostRuntime) -> Resul
     Ok(())
 }
 
+// Treat's assertion fails: it acted on the old mode (steps 0 to 2), and then read the turntable (8)
+// and the current (9). Of Keyboard's writes only that of the new turntable (6) is in the cause.
 #[test]
 fn the_table_set_before_the_edit_is_in_the_cause(rt: HostRuntime) -> Result<(), Fail> {
     let steps = steps_in_cause(rt.alloc(), &THERAC)?;
@@ -148,6 +157,8 @@ fn the_table_set_before_the_edit_is_in_the_cause(rt: HostRuntime) -> Result<(), 
     Ok(())
 }
 
+// Writer and Reader wait (steps 7 and 10). In the cause are these steps, what each read before (6
+// and 9) and the writes that were read there (2 and 5), but no lock and no unlock of the mutex.
 #[test]
 fn both_waits_of_a_read_lock_are_in_the_cause(rt: HostRuntime) -> Result<(), Fail> {
     let steps = steps_in_cause(rt.alloc(), &RWLOCK)?;
@@ -155,6 +166,8 @@ fn both_waits_of_a_read_lock_are_in_the_cause(rt: HostRuntime) -> Result<(), Fai
     Ok(())
 }
 
+// Reader's assertion fails. Updater's reads of `reader` before and after Reader stores it (steps 3,
+// 9 and 4) are in the cause; Updater's stores 2, 6, 7 and 8 aren't.
 #[test]
 fn the_reader_that_was_overlooked_is_in_the_cause(rt: HostRuntime) -> Result<(), Fail> {
     let steps = steps_in_cause(rt.alloc(), &RCU)?;
@@ -162,6 +175,7 @@ fn the_reader_that_was_overlooked_is_in_the_cause(rt: HostRuntime) -> Result<(),
     Ok(())
 }
 
+// Write's assertion fails since Madvise threw its page away. All ten steps are in the cause.
 #[test]
 fn every_step_of_a_dirty_page_is_in_the_cause(rt: HostRuntime) -> Result<(), Fail> {
     let steps = steps_in_cause(rt.alloc(), &COW)?;

@@ -121,6 +121,7 @@ static ATOMIC: [(&[u8], &[u8], &[u8]); 2] = [
     ),
 ];
 
+// Each schedule of `PRINTED` is written as the text of its row.
 #[test]
 fn writes_schedules(rt: HostRuntime) -> Result<(), Fail> {
     for (text, schedule) in PRINTED.iter() {
@@ -130,8 +131,9 @@ fn writes_schedules(rt: HostRuntime) -> Result<(), Fail> {
     Ok(())
 }
 
+// Each text of `PRINTED` is read as the schedule of its row.
 #[test]
-fn reads_schedules_that_are_written(rt: HostRuntime) -> Result<(), Fail> {
+fn reads_printed_spellings(rt: HostRuntime) -> Result<(), Fail> {
     for (text, schedule) in PRINTED.iter() {
         let read = schedule_from(rt.alloc(), text)?;
         assert_eq!(rt; read.as_slice(), *schedule);
@@ -139,8 +141,9 @@ fn reads_schedules_that_are_written(rt: HostRuntime) -> Result<(), Fail> {
     Ok(())
 }
 
+// Each text of `READ`, which `schedule_text` would not write, is read as the schedule of its row.
 #[test]
-fn reads_schedules_that_are_not_written(rt: HostRuntime) -> Result<(), Fail> {
+fn reads_spellings_that_are_not_printed(rt: HostRuntime) -> Result<(), Fail> {
     for (text, schedule) in READ.iter() {
         let read = schedule_from(rt.alloc(), text)?;
         assert_eq!(rt; read.as_slice(), *schedule);
@@ -148,22 +151,23 @@ fn reads_schedules_that_are_not_written(rt: HostRuntime) -> Result<(), Fail> {
     Ok(())
 }
 
-/// Where a text's first piece is that is no piece of a schedule, if that is wrong with the text.
-fn bad_at(alloc: Global, text: &[u8]) -> Option<usize> {
+// The offset of the first bad piece where a text is refused as no schedule; otherwise `None`.
+fn bad_piece_at(alloc: Global, text: &[u8]) -> Option<usize> {
     match schedule_from(alloc, text) {
         Err(ScheduleError::BadSchedule(at)) => Some(at),
         _ => None,
     }
 }
 
+// Each text of `BAD` is refused as no schedule, with the offset of its first bad piece.
 #[test]
-fn names_the_first_piece_that_is_none(rt: HostRuntime) {
+fn names_the_first_bad_piece(rt: HostRuntime) {
     for (text, at) in BAD.iter() {
-        assert_eq!(rt; bad_at(rt.alloc(), text), Some(*at), "{text:?}");
+        assert_eq!(rt; bad_piece_at(rt.alloc(), text), Some(*at), "{text:?}");
     }
 }
 
-/// Where the piece of a text is by which its schedule is too long, if that is wrong with the text.
+// The offset of the piece that is too much where a text is refused as too long; otherwise `None`.
 fn too_long_at(alloc: Global, text: &[u8]) -> Option<usize> {
     match schedule_from(alloc, text) {
         Err(ScheduleError::TooLong(at)) => Some(at),
@@ -171,6 +175,7 @@ fn too_long_at(alloc: Global, text: &[u8]) -> Option<usize> {
     }
 }
 
+// Each text of `LONG` is refused as too long, with the offset of the piece that is too much.
 #[test]
 fn names_the_piece_that_is_too_much(rt: HostRuntime) {
     for (text, at) in LONG.iter() {
@@ -178,6 +183,7 @@ fn names_the_piece_that_is_too_much(rt: HostRuntime) {
     }
 }
 
+// The longest schedule, 32,768 steps of thread 0, is read from `0x32768` and is written so.
 #[test]
 fn reads_and_writes_the_longest_schedule(rt: HostRuntime) -> Result<(), Fail> {
     let longest = schedule_from(rt.alloc(), b"0x32768")?;
@@ -188,15 +194,16 @@ fn reads_and_writes_the_longest_schedule(rt: HostRuntime) -> Result<(), Fail> {
     Ok(())
 }
 
-/// Replays a schedule of a text's program, and answers its trace.
+// The trace of a replay of a schedule of a text's program.
 fn trace_of(alloc: Global, text: &[u8], schedule: &[u8]) -> Result<Vec<u8>, Fail> {
     let program = program_of(alloc, text)?;
     let run = replay(alloc, &program, schedule)?;
     Ok(trace_text(alloc, &program, &run)?)
 }
 
-/// Compares what the steps `0,1,0` of `RACE` do, and how they end.
-fn check_race(rt: &impl Abort, run: &Run) {
+// Checks the run of `0,1,0` in `RACE`: thread 2 stopped at the start, the steps are `LINES` with
+// one preemption, the variable is 0 in the end, and the run failed.
+fn check_race_run(rt: &impl Abort, run: &Run) {
     assert_eq!(rt; run.stopped(), &[2][..]);
     assert_eq!(rt; run.lines(), &LINES[..]);
     assert_eq!(rt; run.preemptions(), 1);
@@ -204,16 +211,18 @@ fn check_race(rt: &impl Abort, run: &Run) {
     assert_eq!(rt; run.kind(), Some(Kind::Failed));
 }
 
+// The run of `0,1,0` in `RACE` is what `check_race_run` says.
 #[test]
-fn replays(rt: HostRuntime) -> Result<(), Fail> {
+fn replays_a_race(rt: HostRuntime) -> Result<(), Fail> {
     let program = program_of(rt.alloc(), RACE)?;
     let run = replay(rt.alloc(), &program, &[0, 1, 0])?;
-    check_race(&rt, &run);
+    check_race_run(&rt, &run);
     Ok(())
 }
 
+// The trace of `0,1,0` in `RACE`: C's stop, a line for each step, and three lines of how it ends.
 #[test]
-fn replays_and_prints(rt: HostRuntime) -> Result<(), Fail> {
+fn prints_a_replayed_race(rt: HostRuntime) -> Result<(), Fail> {
     let trace = trace_of(rt.alloc(), RACE, &[0, 1, 0])?;
     let want =
         b"start C stop assert\n0 A store x 1\n1 B load x 1 preempt stop assert\n2 A store x 0\npreemptions 1\nkind failed\nvars x=0\n";
@@ -221,8 +230,9 @@ fn replays_and_prints(rt: HostRuntime) -> Result<(), Fail> {
     Ok(())
 }
 
+// The schedules of `ATOMIC`, of programs with `cas` and `add`, have the traces of their rows.
 #[test]
-fn replays_and_prints_atomic_updates(rt: HostRuntime) -> Result<(), Fail> {
+fn prints_replayed_atomic_updates(rt: HostRuntime) -> Result<(), Fail> {
     for (text, schedule, want) in ATOMIC.iter() {
         let trace = trace_of(rt.alloc(), text, schedule)?;
         assert_eq!(rt; trace.as_slice(), *want);

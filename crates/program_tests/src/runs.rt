@@ -17,7 +17,7 @@ pub fn program_of(alloc: Global, text: &[u8]) -> Result<Program, Fail> {
     Ok(lower(alloc, &tree)?)
 }
 
-/// The state after a schedule each of whose threads is enabled in its turn.
+/// The state after a schedule. Checks that each thread is enabled in its turn.
 pub fn state_after(
     rt: &impl Abort,
     alloc: Global,
@@ -29,7 +29,7 @@ pub fn state_after(
     let mut state = State::start(alloc, p)?;
     for t in schedule {
         assert!(rt;
-            state.enabled(p).contains(*t),
+            state.enabled(p).has(*t),
             "{t} of {schedule:?} is not enabled"
         );
         state.step(p, *t);

@@ -205,7 +205,7 @@ const ENDS: [EndRow; 28] = [
     },
 ];
 
-// Compares how the schedule to a state ends with what the row says.
+// Checks that a state ends with the row's kind and values, and that the kind is bad unless done.
 fn check_end(rt: &impl Abort, p: &Program, state: &State, row: &EndRow)
     requires { IsOf p.now state.now }
 {
@@ -214,14 +214,14 @@ fn check_end(rt: &impl Abort, p: &Program, state: &State, row: &EndRow)
     assert_eq!(rt; state.variables(), row.values, "{:?}", row.schedule);
 }
 
-// Compares an end view with what the row says.
+// Checks that there is an end view, of the row's kind and with the row's values.
 fn check_view(rt: &impl Abort, view: Option<&EndView>, row: &EndRow) {
     let view = view.expect(rt, "an end view");
     assert_eq!(rt; view.kind(), row.kind, "{:?}", row.schedule);
     assert_eq!(rt; view.vars(), row.values, "{:?}", row.schedule);
 }
 
-// Compares how the schedule of a row ends, and its end view, with what the row says.
+// Checks that the schedule of a row ends, and has the end view, that the row says.
 fn check_row(rt: &impl Abort, alloc: Global, row: &EndRow) -> Result<(), Fail> {
     let p = program_of(alloc, row.text)?;
     let state = state_after(rt, alloc, &p, row.schedule)?;
@@ -231,6 +231,7 @@ fn check_row(rt: &impl Abort, alloc: Global, row: &EndRow) -> Result<(), Fail> {
     Ok(())
 }
 
+// Each schedule of `ENDS` ends with its row's kind and values, in the state and in the end view.
 #[test]
 fn schedules_end_as_they_should(rt: HostRuntime) -> Result<(), Fail> {
     for row in &ENDS {
@@ -239,7 +240,7 @@ fn schedules_end_as_they_should(rt: HostRuntime) -> Result<(), Fail> {
     Ok(())
 }
 
-// Checks that the first thread has stopped for this cause, and that the schedule ends with that.
+// Checks that the first thread has stopped for the cause `stop`, and that the run has failed.
 fn check_stop(rt: &impl Abort, p: &Program, state: &State, stop: Stop)
     requires { IsOf p.now state.now }
 {
@@ -249,7 +250,7 @@ fn check_stop(rt: &impl Abort, p: &Program, state: &State, stop: Stop)
     assert_eq!(rt; state.kind(p), Some(Kind::Failed), "{stop:?}");
 }
 
-// Checks that the first thread of a text's program stops for this cause after one step.
+// Checks that the first step of a text's program, by its first thread, stops it for this cause.
 fn check_stop_after_one_step(
     rt: &impl Abort,
     alloc: Global,
@@ -262,6 +263,7 @@ fn check_stop_after_one_step(
     Ok(())
 }
 
+// An unlock of a mutex not owned, a release of a full semaphore, and an assertion that fails.
 #[test]
 fn what_stops_a_thread(rt: HostRuntime) -> Result<(), Fail> {
     check_stop_after_one_step(
@@ -290,14 +292,15 @@ const HANDED_ON: &[u8] = &[
     14, 14, 15,
 ];
 
-// Checks that of sixteen threads the last one alone is enabled.
+// Checks that a set has thread 15, and none of the other threads from 0 to 16.
 fn check_only_last(rt: &impl Abort, enabled: Mask) {
     for t in 0..16 {
-        assert_eq!(rt; enabled.contains(t), t == 15, "{t}");
+        assert_eq!(rt; enabled.has(t), t == 15, "{t}");
     }
-    assert!(rt; !enabled.contains(16));
+    assert!(rt; !enabled.has(16));
 }
 
+// Of the threads of `SIXTEEN` only the last is enabled at first. `HANDED_ON` ends as done.
 #[test]
 fn sixteen_threads_run(rt: HostRuntime) -> Result<(), Fail> {
     let p = program_of(rt.alloc(), SIXTEEN)?;
@@ -309,21 +312,23 @@ fn sixteen_threads_run(rt: HostRuntime) -> Result<(), Fail> {
     Ok(())
 }
 
-// What a thread is about to do, whether it goes on, and whether it is enabled, asked twice.
+// Of a thread: its next action, its status, and whether it is enabled, both as `is_enabled` and as
+// the set of `enabled` says.
 fn thread_facts(p: &Program, state: &State, t: u8) -> (Option<Action>, Status, bool, bool)
     requires of { IsOf p.now state.now }
     requires thread { t < length p.now.threads }
 {
     let enabled = state.is_enabled(p, t);
     (
-        state.next(p, t),
+        state.next_action(p, t),
         state.status(t),
         enabled,
-        state.enabled(p).contains(t),
+        state.enabled(p).has(t),
     )
 }
 
-// Checks that the first thread is about to store its first local, and the second one has ended.
+// Checks that of two threads the first is enabled and about to store its first local, a 5, in the
+// first variable, and that the second has ended without a stop.
 fn check_threads(rt: &impl Abort, p: &Program, state: &State)
     requires { IsOf p.now state.now }
 {
@@ -341,6 +346,7 @@ fn check_threads(rt: &impl Abort, p: &Program, state: &State)
     assert_eq!(rt; state.status(1).stop(), None);
 }
 
+// In a copy of the opening state, A is about to store 5, and B has ended.
 #[test]
 fn what_a_thread_is_about_to_do(rt: HostRuntime) -> Result<(), Fail> {
     let p = program_of(
@@ -357,7 +363,8 @@ fn what_a_thread_is_about_to_do(rt: HostRuntime) -> Result<(), Fail> {
 const HOLDING: &[u8] =
     b"mutex l; mutex m; cond b; cond c; sem s = 7; sem s2 = 2; thread A { lock m; wait c m; } thread B { lock m; wait c m; } thread C { lock l; acquire s2; set q 4; set r 5; release s2; }";
 
-// Checks that the third thread owns the first mutex, and has one unit of the second semaphore.
+// Checks that of two mutexes the third thread owns the first, and nobody the second, and that two
+// semaphores have 7 units and 1.
 fn check_owners_and_counts(rt: &impl Abort, p: &Program, state: &State)
     requires { IsOf p.now state.now }
 {
@@ -366,7 +373,8 @@ fn check_owners_and_counts(rt: &impl Abort, p: &Program, state: &State)
     assert_eq!(rt; (state.count(0), state.count(1)), (7, 1));
 }
 
-// Checks that the first two threads wait for the second condition.
+// Checks that of two conditions nobody waits for the first, and that the queue of the second is the
+// first thread and then the second.
 fn check_queues(rt: &impl Abort, p: &Program, state: &State)
     requires { IsOf p.now state.now }
 {
@@ -380,7 +388,8 @@ fn check_queues(rt: &impl Abort, p: &Program, state: &State)
     assert_eq!(rt; state.queued(1, 2), None);
 }
 
-// Compares where the first and the third thread are, and what the third one has set.
+// Checks that of three threads the first is at instruction 1 and the third at 4, where its first
+// two locals are 4 and 5.
 fn check_places_and_locals(rt: &impl Abort, p: &Program, state: &State)
     requires { IsOf p.now state.now }
 {
@@ -390,6 +399,7 @@ fn check_places_and_locals(rt: &impl Abort, p: &Program, state: &State)
     assert_eq!(rt; (locals[0], locals[1]), (4, 5));
 }
 
+// Owners, counts, queues, `pc`s and locals of `HOLDING` after two steps of each thread.
 #[test]
 fn what_objects_and_threads_hold(rt: HostRuntime) -> Result<(), Fail> {
     let p = program_of(rt.alloc(), HOLDING)?;
@@ -418,7 +428,8 @@ fn view_at(alloc: Global, place: usize) -> Result<EndView, AllocError>
     Ok(EndView::new(*kind, values.as_slice().to_vec(alloc)?))
 }
 
-// Compares the order of two views with the wanted one, and so with the parts of the first.
+// Checks that a view compares with another one as `want` says, both as a whole and by its kind and
+// values.
 fn check_order(rt: &impl Abort, view: &EndView, other: &EndView, want: Ordering) {
     assert_eq!(rt;
         view.compare(other),
@@ -431,7 +442,7 @@ fn check_order(rt: &impl Abort, view: &EndView, other: &EndView, want: Ordering)
     assert_eq!(rt; parts, want, "{:?} with {:?}", view.vars(), other.vars());
 }
 
-// Checks that the view of a place of `RISING_ENDS` compares with all views there as the places do.
+// Checks that the view at a place of `RISING_ENDS` compares with each view there as the places do.
 fn check_order_with_all(
     rt: &impl Abort,
     alloc: Global,
@@ -444,6 +455,7 @@ fn check_order_with_all(
     Ok(())
 }
 
+// Each end view of `RISING_ENDS` has its row's kind and values, and compares as its place does.
 #[test]
 fn views_come_in_order(rt: HostRuntime) -> Result<(), Fail> {
     for i in 0..5 {
@@ -456,6 +468,7 @@ fn views_come_in_order(rt: HostRuntime) -> Result<(), Fail> {
     Ok(())
 }
 
+// Each end view of `RISING_ENDS` compares as equal with a copy of it.
 #[test]
 fn copies_of_views_are_equal(rt: HostRuntime) -> Result<(), Fail> {
     for i in 0..5 {
@@ -466,6 +479,7 @@ fn copies_of_views_are_equal(rt: HostRuntime) -> Result<(), Fail> {
     Ok(())
 }
 
+// A view of `RISING_ENDS` that is written over with another row has the kind and values of that.
 #[test]
 fn views_are_written_over(rt: HostRuntime) -> Result<(), Fail> {
     for i in 0..5 {
@@ -480,13 +494,14 @@ fn views_are_written_over(rt: HostRuntime) -> Result<(), Fail> {
 
 #[test]
 fn the_empty_mask_has_no_member(rt: HostRuntime) {
-    assert!(rt; !Mask::empty().contains(0));
+    assert!(rt; !Mask::empty().has(0));
 }
 
+// A set of threads 3 and 15 has these alone, and one less after `with(.., false)` or `difference`.
 #[test]
 fn masks_have_their_members(rt: HostRuntime) -> Result<(), Fail> {
     let two = Mask::empty().with(3, true).with(15, true);
-    assert!(rt; two.contains(3) && two.contains(15) && !two.contains(4) && !two.contains(16));
+    assert!(rt; two.has(3) && two.has(15) && !two.has(4) && !two.has(16));
     assert_eq!(rt; two.first_from(0), Some(3));
     assert_eq!(rt; two.first_from(4), Some(15));
     assert_eq!(rt; two.first_from(16), None);

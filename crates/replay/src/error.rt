@@ -18,13 +18,14 @@ pub enum ScheduleError {
     OutOfMemory,
 }
 
-/// What the user is told: the number and the name of the refusal, and the offset in the text.
 impl fmt::Display for ScheduleError {
     ghost use Rattle.std.specs.Prelude.{Some};
     ghost use Rattle.replay.specs.ErrorTexts.{schedule_error_text};
 
     ghost output = { λ e. Some (schedule_error_text e) };
 
+    /// What the user is told, with the offset in the text, as `schedule Q1 BadSchedule at 4`;
+    /// `memory` where memory ran out.
     fn fmt<W: fmt::Write>(&self, f: &mut fmt::Formatter<W>) -> fmt::Result {
         match self {
             ScheduleError::BadSchedule(at) => write!(f, "schedule Q1 BadSchedule at {at}"),
@@ -39,6 +40,7 @@ impl From<AllocError> for ScheduleError {
 
     ghost from_gives = { λ _ e. e ≡ OutOfMemory };
 
+    /// Memory that ran out is told by [`ScheduleError::OutOfMemory`].
     fn from(_e: AllocError) -> ScheduleError {
         ScheduleError::OutOfMemory
     }
@@ -49,6 +51,7 @@ impl<T: Drop> From<AllocFailed<T>> for ScheduleError {
 
     ghost from_gives = { λ _ e. e ≡ OutOfMemory };
 
+    /// Memory that ran out is told by [`ScheduleError::OutOfMemory`].
     fn from(_e: AllocFailed<T>) -> ScheduleError {
         ScheduleError::OutOfMemory
     }
@@ -65,13 +68,14 @@ pub enum ReplayError {
     OutOfMemory,
 }
 
-/// What the user is told: the number and the name of the refusal, and the place in the schedule.
 impl fmt::Display for ReplayError {
     ghost use Rattle.std.specs.Prelude.{Some};
     ghost use Rattle.replay.specs.ErrorTexts.{replay_error_text};
 
     ghost output = { λ e. Some (replay_error_text e) };
 
+    /// What the user is told, with the place in the schedule, as `schedule P2 NotEnabled at 1`;
+    /// `memory` where memory ran out.
     fn fmt<W: fmt::Write>(&self, f: &mut fmt::Formatter<W>) -> fmt::Result {
         match self {
             ReplayError::NoSuchThread(at) => write!(f, "schedule P1 NoSuchThread at {at}"),
@@ -86,6 +90,7 @@ impl From<AllocError> for ReplayError {
 
     ghost from_gives = { λ _ e. e ≡ OutOfMemory };
 
+    /// Memory that ran out is told by [`ReplayError::OutOfMemory`].
     fn from(_e: AllocError) -> ReplayError {
         ReplayError::OutOfMemory
     }
@@ -96,6 +101,7 @@ impl<T: Drop> From<AllocFailed<T>> for ReplayError {
 
     ghost from_gives = { λ _ e. e ≡ OutOfMemory };
 
+    /// Memory that ran out is told by [`ReplayError::OutOfMemory`].
     fn from(_e: AllocFailed<T>) -> ReplayError {
         ReplayError::OutOfMemory
     }

@@ -12,8 +12,9 @@ ghost use Rattle.replay.specs.declared.piece.TheConstants.{NUMBERS};
 ghost use Rattle.replay.specs.declared.schedule.TheConstants.{PLACES};
 ghost use Rattle.replay.specs.declared.error.ScheduleError.{ScheduleError};
 
-/// A schedule that has a first bad place doesn't run, and has only one. So `replay` answers a
-/// schedule that runs by its run, and any other by its first bad place, unless memory runs out.
+/// A schedule with a first bad place, the first whose thread isn't enabled there, doesn't run, and
+/// has no other first bad place. So `replay` answers a schedule that runs by its run, and any other
+/// by its first bad place, unless memory runs out.
 pub fn one_place_is_the_first_bad()
     ensures fails { (p : Program) (w : List ℕ) (k : ℕ) →
         IsFirstBad p w k → runs p (start p) w ≡ false }
@@ -21,9 +22,9 @@ pub fn one_place_is_the_first_bad()
         IsFirstBad p w j → IsFirstBad p w k → j ≡ k }
 {}
 
-/// The run of a schedule in a well formed program can be told with the program's names, as
-/// `trace_text` asks for.
-pub fn runs_can_be_told()
+/// The run of a schedule in a well formed program is as `trace_text` requires: it has threads and
+/// objects of the program alone, whose names can be printed, and a value for each variable.
+pub fn runs_can_be_printed()
     ensures { (p : Program) (w : List ℕ) (r : Run) →
         IsWellFormed p → IsRunOf p w r → IsValidRun p r }
 {}
@@ -40,21 +41,22 @@ pub fn a_refused_text_spells_nothing_short()
         IsTooLongAt text at → Spells text w → PLACES < length w }
 {}
 
-/// One error fits a text at most. So `schedule_from` answers a text by the schedule that it spells,
-/// where it spells one of at most `PLACES` places, and else by this one error; only of the first
-/// can it say that memory ran out.
+/// At most one error fits a text. So `schedule_from` answers a text that spells a schedule of at
+/// most `PLACES` places by that schedule, or says that memory ran out, and any other text by the
+/// one error that fits it.
 pub fn one_error_fits_a_text()
     ensures { (text : List ℕ) (e f : ScheduleError) →
         ScheduleErrorMeans text e → ScheduleErrorMeans text f → e ≡ f }
 {}
 
-/// A schedule that is read has at most `PLACES` places, which is this number.
-pub fn schedules_are_read_within_the_limit()
+/// `PLACES`, the most places (one for each step) of a schedule that `schedule_from` reads, is
+/// 32,768: two for each instruction of each thread.
+pub fn limit_of_places_is_32768()
     ensures { PLACES ≡ 32768 }
 {}
 
-/// The printed spelling of a schedule spells it. So reading it gives the schedule back, and two
-/// schedules aren't printed alike.
+/// The printed spelling of a schedule of thread numbers below `NUMBERS` spells it and no other. So
+/// it is read back, where it isn't too long for that, and no two schedules are printed alike.
 pub fn the_printed_spelling_is_read_back()
     ensures spells { (w : List ℕ) →
         All (λ t. t < NUMBERS) w → length w < 2 ^ 64 → Spells (printed w) w }
@@ -62,8 +64,8 @@ pub fn the_printed_spelling_is_read_back()
         text ≡ printed w → Spells text v → All (λ t. t < NUMBERS) w → length w < 2 ^ 64 → v ≡ w }
 {}
 
-/// The pieces of the printed spelling are the longest runs of the schedule: no two neighbours are
-/// of one thread.
+/// The pieces of the printed spelling are the longest runs of the schedule: together they are its
+/// steps, none is empty, and no two neighbours are of one thread.
 pub fn the_longest_runs_are_printed()
     ensures pieces { (w : List ℕ) →
         All (λ t. t < NUMBERS) w → length w < 2 ^ 64 →

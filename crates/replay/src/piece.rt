@@ -7,13 +7,13 @@ ghost use Rattle.replay.specs.inner.Piece.{IsHeldAs};
 
 use std::alloc::{AllocError, Global};
 
-/// How many numbers a schedule's text may name: 0 to 255.
+/// How many thread numbers a schedule's text may name: 0 to 255.
 pub const NUMBERS: usize = 256;
 
-/// The text of the one number that begins with a zero.
+/// The text of 0, the only number whose text begins with a zero.
 const ZERO: &[u8] = b"0";
 
-/// A number of steps of a thread, one after the other.
+/// A piece of a schedule: a number of steps of one thread, one after the other.
 #[derive(Clone, Copy)]
 pub struct Piece {
     /// The thread, by its number.
@@ -23,7 +23,7 @@ pub struct Piece {
 }
 
 impl Piece {
-    /// One step of a thread.
+    /// The piece of a single step of a thread.
     pub fn step(thread: u8) -> Piece
         ensures { result ≡ record { thread = thread; count = 1 } }
     {
@@ -31,28 +31,30 @@ impl Piece {
     }
 }
 
-/// The piece that a text spells, if any; a count above `usize::MAX` is answered as `usize::MAX`.
+/// The piece that a text spells; `None` where the text spells none. A count above `usize::MAX`, too
+/// long for a schedule anyway, is answered as `usize::MAX`.
 pub fn piece_of(text: &[u8]) -> Option<Piece>
     ensures { MatchOption result (¬ (IsPiece text.now)) (IsHeldAs text.now) }
 {
     let Some(at) = first_x(text) else {
-        return Some(Piece::step(number_of(text)?));
+        return Some(Piece::step(thread_number_of(text)?));
     };
     Some(Piece {
-        thread: number_of(&text[..at])?,
+        thread: thread_number_of(&text[..at])?,
         count: count_of(&text[at + 1..])?,
     })
 }
 
-// The index of the first `x` in a text.
+// The index of the first `x` in a text; `None` where the text has none.
 fn first_x(text: &[u8]) -> Option<usize>
     ensures { result ≡ position (λ b. b == 120) text.now }
 {
     text.iter().position(|b| *b == b'x')
 }
 
-// The number 0 to 255 that the text is in decimal, without leading zeros and without a sign.
-fn number_of(text: &[u8]) -> Option<u8>
+// The thread number, 0 to 255, that a text spells in decimal, without leading zeros and without a
+// sign; `None` where the text spells none.
+fn thread_number_of(text: &[u8]) -> Option<u8>
     ensures { MatchOption result ((t : ℕ) → ¬ (SpellsNumber text.now t)) (SpellsNumber text.now) }
 {
     if text == ZERO {
@@ -66,7 +68,8 @@ fn number_of(text: &[u8]) -> Option<u8>
     }
 }
 
-// The count that the text is in decimal; one above `usize::MAX` is answered as `usize::MAX`.
+// The count, at least 1, that a text spells in decimal, without leading zeros and without a sign;
+// `None` where the text spells none. A count above `usize::MAX` is answered as `usize::MAX`.
 fn count_of(text: &[u8]) -> Option<usize>
     ensures { MatchOption result ((n : ℕ) → ¬ (SpellsCount text.now n))
         (λ held. (n : ℕ) × SpellsCount text.now n × (held ≡ min n (2 ^ 64 - 1))) }
@@ -80,14 +83,19 @@ fn count_of(text: &[u8]) -> Option<usize>
     Some(digits.parse().unwrap_or(usize::MAX))
 }
 
-// Whether the text has digits alone, at least one, and no zero first.
+// Whether a text spells a count: it has digits alone, at least one, and the first isn't 0.
 fn is_count(text: &[u8]) -> bool
     ensures { IsTrue result ↔ (IsNumeral 10 text.now × (slice_index text.now 0 ≢ 48)) }
 {
     !text.is_empty() && text[0] != b'0' && text.iter().all(|b| b.is_ascii_digit())
 }
 
-/// Appends a piece to a text: a single step as its thread's number alone.
+/// Appends the spelling of a piece to a text: its thread's number and, unless it has a single step,
+/// an `x` and the number of steps.
+///
+/// # Errors
+///
+/// `AllocError` where memory runs out.
 pub fn put_piece(text: &mut Vec<u8>, alloc: Global, piece: Piece) -> Result<(), AllocError>
     ensures { OnOk result (text.new.items ≡ text.old.items ++ piece_text piece) }
 {
@@ -99,8 +107,12 @@ pub fn put_piece(text: &mut Vec<u8>, alloc: Global, piece: Piece) -> Result<(), 
     Ok(())
 }
 
-/// Appends the steps of a piece to a schedule.
-pub fn put_steps(schedule: &mut Vec<u8>, piece: Piece) -> Result<(), AllocError>
+/// Appends the steps of a piece to a schedule, as thread numbers.
+///
+/// # Errors
+///
+/// `AllocError` where memory runs out.
+pub fn push_steps(schedule: &mut Vec<u8>, piece: Piece) -> Result<(), AllocError>
     ensures { OnOk result
         (schedule.new.items ≡ schedule.old.items ++ replicate piece.count piece.thread) }
 {

@@ -121,7 +121,7 @@ impl Run {
         self.lines.as_slice()
     }
 
-    /// How many switches of the schedule were preempting.
+    /// How many preemptions: switches to another thread from one that was still enabled.
     pub fn preemptions(&self) -> usize
         ensures { result ≡ self.now.preemptions }
     {
@@ -135,7 +135,7 @@ impl Run {
         self.variables.as_slice()
     }
 
-    /// How the schedule ends; `None` where it isn't complete.
+    /// How the schedule ends (done, failed or stuck); `None` where it isn't complete.
     pub fn kind(&self) -> Option<Kind>
         ensures { result ≡ self.now.kind }
     {
@@ -143,12 +143,12 @@ impl Run {
     }
 }
 
-/// The run of a schedule, from the start of the program.
+/// The run of a schedule from the initial state of a program: each of its steps is taken in order.
 ///
 /// # Errors
 ///
-/// `NoSuchThread` or `NotEnabled` with the first place at which the schedule can't go on,
-/// `OutOfMemory` where memory runs out.
+/// `NoSuchThread` or `NotEnabled` with the first place of the schedule, counted from 0, whose
+/// thread doesn't exist or isn't enabled there; `OutOfMemory` where memory runs out.
 pub fn replay(alloc: Global, program: &Program, schedule: &[u8]) -> Result<Run, ReplayError>
     ensures value { MatchResult result
         (IsRunOf program.now schedule.now) (ReplayErrorMeans program.now schedule.now) }
@@ -170,7 +170,7 @@ pub fn replay(alloc: Global, program: &Program, schedule: &[u8]) -> Result<Run, 
     })
 }
 
-// The threads that have stopped in a state, in rising order.
+// The threads that have stopped in a state, by rising numbers.
 fn stopped_threads(alloc: Global, program: &Program, state: &State) -> Result<Vec<u8>, AllocError>
     requires { IsOf program.now state.now }
     ensures value { IfOk result (λ v. v.items ≡ stopped_in state.now) }
@@ -192,7 +192,8 @@ fn has_stopped(status: Status) -> bool
     matches!(status, Status::Stopped(_))
 }
 
-// Takes the step of a thread at a place of a schedule, and says what it was.
+// Takes a step of the thread that is at the place `at` of a schedule, and answers what the step
+// did. Where there is no such thread, or it isn't enabled, the answer is an error with that place.
 fn take_step(
     execution: &mut Execution,
     program: &Program,
@@ -211,7 +212,7 @@ fn take_step(
     if !execution.state().is_enabled(program, thread) {
         return Err(ReplayError::NotEnabled(at));
     }
-    let action = execution.state().next(program, thread).unwrap();
+    let action = execution.state().next_action(program, thread).unwrap();
     let act = act_of(execution.state(), program, thread, action);
     let preempting = execution.preempts(program, thread);
     execution.step(program, thread);
@@ -223,7 +224,8 @@ fn take_step(
     })
 }
 
-/// What a thread is about to do by its action, with the values that are read and stored.
+/// What a thread's next step, which has this action, will do from this state, with the values that
+/// it reads and stores.
 pub fn act_of(state: &State, program: &Program, thread: u8, action: Action) -> Act
     requires of { IsOf program.now state.now }
     requires thread { thread < length program.now.threads }
@@ -244,7 +246,8 @@ pub fn act_of(state: &State, program: &Program, thread: u8, action: Action) -> A
     }
 }
 
-// What a thread is about to do with a variable, with the values that are read and stored.
+// What a thread's next step, which has this action on a variable, will do from this state, with the
+// values that it reads and stores.
 fn act_on_variable(state: &State, thread: u8, variable: usize, action: VariableAction) -> Act
     requires thread { thread < length state.now.threads }
     requires variable { variable < length state.now.vars }

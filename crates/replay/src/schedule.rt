@@ -8,17 +8,18 @@ ghost use Rattle.replay.specs.Spelling.{printed, Spells, IsReadable, ScheduleErr
 ghost use Rattle.replay.specs.inner.Piece.{RefusalMeans};
 
 use crate::error::ScheduleError;
-use crate::piece::{Piece, piece_of, put_piece, put_steps};
+use crate::piece::{Piece, piece_of, push_steps, put_piece};
 use schedules::limits::STEPS;
 use std::alloc::{AllocError, Global};
 
-/// The most places of a schedule that is read from a text: the limit of steps.
+/// The most places, one for each step, of a schedule that is read from a text: the limit of steps.
 pub const PLACES: usize = STEPS;
 
 /// The text of the empty schedule.
 const EMPTY: &[u8] = b"-";
 
-/// The printed spelling of a schedule: its longest runs, a run of one step as the number alone.
+/// The printed spelling of a schedule: its longest runs of steps of one thread, joined by commas, a
+/// run of one step as the thread's number alone; `-` where the schedule is empty.
 ///
 /// # Errors
 ///
@@ -64,7 +65,8 @@ pub fn schedule_from(alloc: Global, text: &[u8]) -> Result<Vec<u8>, ScheduleErro
     Ok(steps_of_pieces(alloc, text)?)
 }
 
-// Checks that a text that isn't `-` spells a schedule of at most `PLACES` places.
+// Checks that a text that isn't `-` spells a schedule of at most `PLACES` places. An error names
+// the first piece that can't be taken, by its offset.
 fn check_pieces(text: &[u8]) -> Result<(), ScheduleError>
     requires { bytes_eq text.now (codes "-") ≡ false }
     ensures { MatchResult result (λ _. IsReadable text.now) (RefusalMeans text.now) }
@@ -84,7 +86,8 @@ fn check_pieces(text: &[u8]) -> Result<(), ScheduleError>
     Ok(())
 }
 
-// The steps of the pieces of a text that isn't `-`, one after the other.
+// The schedule that a text other than `-` spells, one that `check_pieces` found good: the steps of
+// its pieces, one after the other.
 fn steps_of_pieces(alloc: Global, text: &[u8]) -> Result<Vec<u8>, AllocError>
     requires some { bytes_eq text.now (codes "-") ≡ false }
     requires readable { IsReadable text.now }
@@ -93,12 +96,12 @@ fn steps_of_pieces(alloc: Global, text: &[u8]) -> Result<Vec<u8>, AllocError>
 {
     let mut schedule = Vec::new(alloc);
     for piece in text.split(|b| *b == b',') {
-        put_steps(&mut schedule, piece_of(piece).unwrap())?;
+        push_steps(&mut schedule, piece_of(piece).unwrap())?;
     }
     Ok(schedule)
 }
 
-// Whether a text is that of the empty schedule.
+// Whether a text is `-`, the text of the empty schedule.
 fn is_empty_schedule(text: &[u8]) -> bool
     ensures { result ≡ bytes_eq text.now (codes "-") }
 {

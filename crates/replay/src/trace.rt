@@ -29,26 +29,26 @@ pub fn trace_text(alloc: Global, program: &Program, run: &Run) -> Result<Vec<u8>
         IsRunOf program.now w run.now → text.items ≡ Trace program.now w) }
 {
     let mut text = Vec::new(alloc);
-    put_starts(&mut text, program, run.stopped())?;
-    put_steps(&mut text, alloc, program, run.lines())?;
-    put_end(&mut text, alloc, program, run)?;
+    put_start_lines(&mut text, program, run.stopped())?;
+    put_step_lines(&mut text, alloc, program, run.lines())?;
+    put_end_lines(&mut text, alloc, program, run)?;
     Ok(text)
 }
 
-// Writes a line for each thread that stopped at the start.
-fn put_starts(text: &mut Vec<u8>, program: &Program, stopped: &[u8]) -> Result<(), AllocError>
+// Appends a line for each thread that stopped before any step, where only an assertion can stop it.
+fn put_start_lines(text: &mut Vec<u8>, program: &Program, stopped: &[u8]) -> Result<(), AllocError>
     requires { All (λ t. t < length program.now.threads) stopped.now }
     ensures { OnOk result
         (text.new.items ≡ text.old.items ++ flat_map (start_line program.now) stopped.now) }
 {
     for t in stopped {
-        put_words(text, b"start ", program.thread_name(*t), b" stop assert\n")?;
+        put_three_texts(text, b"start ", program.thread_name(*t), b" stop assert\n")?;
     }
     Ok(())
 }
 
-// Writes a line for each step.
-fn put_steps(
+// Appends a line for each step of a run, in order.
+fn put_step_lines(
     text: &mut Vec<u8>,
     alloc: Global,
     program: &Program,
@@ -59,13 +59,13 @@ fn put_steps(
         (text.new.items ≡ text.old.items ++ step_lines program.now 0 lines.now) }
 {
     for (k, line) in lines.iter().enumerate() {
-        put_step(text, alloc, program, k, *line)?;
+        put_step_line(text, alloc, program, k, *line)?;
     }
     Ok(())
 }
 
-// Writes the line of the step at place k of the schedule.
-fn put_step(
+// Appends the line of the step that has index k in the schedule: k, its thread, and what it did.
+fn put_step_line(
     text: &mut Vec<u8>,
     alloc: Global,
     program: &Program,
@@ -76,9 +76,9 @@ fn put_step(
     ensures { OnOk result (text.new.items ≡ text.old.items ++ step_line program.now k line) }
 {
     put_number(text, alloc, b"", k)?;
-    put_words(text, b" ", program.thread_name(line.thread), b" ")?;
+    put_three_texts(text, b" ", program.thread_name(line.thread), b" ")?;
     put_act(text, alloc, program, line.act)?;
-    put_words(
+    put_three_texts(
         text,
         preempt_text(line.preempting),
         stop_text(line.stop),
@@ -87,45 +87,46 @@ fn put_step(
     Ok(())
 }
 
-// Writes what a step did.
+// Appends what a step did: its word, its objects' names, the values that it read and stored, and of
+// a `cas` whether it hit.
 fn put_act(text: &mut Vec<u8>, alloc: Global, program: &Program, act: Act) -> Result<(), AllocError>
     requires { IsValidAct program.now act }
     ensures { OnOk result (text.new.items ≡ text.old.items ++ act_text program.now act) }
 {
     match act {
         Act::Load { variable, value } => {
-            put_name(text, b"load ", program.variable_name(variable))?;
+            put_two_texts(text, b"load ", program.variable_name(variable))?;
             put_value(text, alloc, b" ", value)
         }
         Act::Store { variable, value } => {
-            put_name(text, b"store ", program.variable_name(variable))?;
+            put_two_texts(text, b"store ", program.variable_name(variable))?;
             put_value(text, alloc, b" ", value)
         }
         Act::Add { variable, old, new } => {
-            put_name(text, b"add ", program.variable_name(variable))?;
+            put_two_texts(text, b"add ", program.variable_name(variable))?;
             put_value(text, alloc, b" ", old)?;
             put_value(text, alloc, b" ", new)
         }
         Act::Cas { variable, old, hit } => {
-            put_name(text, b"cas ", program.variable_name(variable))?;
+            put_two_texts(text, b"cas ", program.variable_name(variable))?;
             put_value(text, alloc, b" ", old)?;
             put_hit(text, alloc, hit)
         }
-        Act::Lock(m) => put_name(text, b"lock ", program.mutex_name(m)),
-        Act::Unlock(m) => put_name(text, b"unlock ", program.mutex_name(m)),
+        Act::Lock(m) => put_two_texts(text, b"lock ", program.mutex_name(m)),
+        Act::Unlock(m) => put_two_texts(text, b"unlock ", program.mutex_name(m)),
         Act::Wait { condition, mutex } => {
-            put_name(text, b"wait ", program.condition_name(condition))?;
-            put_name(text, b" ", program.mutex_name(mutex))
+            put_two_texts(text, b"wait ", program.condition_name(condition))?;
+            put_two_texts(text, b" ", program.mutex_name(mutex))
         }
-        Act::Retake(m) => put_name(text, b"retake ", program.mutex_name(m)),
-        Act::Signal(c) => put_name(text, b"signal ", program.condition_name(c)),
-        Act::Broadcast(c) => put_name(text, b"broadcast ", program.condition_name(c)),
-        Act::Acquire(k) => put_name(text, b"acquire ", program.semaphore_name(k)),
-        Act::Release(k) => put_name(text, b"release ", program.semaphore_name(k)),
+        Act::Retake(m) => put_two_texts(text, b"retake ", program.mutex_name(m)),
+        Act::Signal(c) => put_two_texts(text, b"signal ", program.condition_name(c)),
+        Act::Broadcast(c) => put_two_texts(text, b"broadcast ", program.condition_name(c)),
+        Act::Acquire(k) => put_two_texts(text, b"acquire ", program.semaphore_name(k)),
+        Act::Release(k) => put_two_texts(text, b"release ", program.semaphore_name(k)),
     }
 }
 
-// Writes whether a `cas` hit, and the value that a hit stored.
+// Appends how a `cas` went: `hit` and the value that it stored, or `miss`.
 fn put_hit(text: &mut Vec<u8>, alloc: Global, hit: Option<i64>) -> Result<(), AllocError>
     ensures { OnOk result (text.new.items ≡ text.old.items ++ hit_text hit) }
 {
@@ -135,8 +136,9 @@ fn put_hit(text: &mut Vec<u8>, alloc: Global, hit: Option<i64>) -> Result<(), Al
     }
 }
 
-// Writes the three lines at the end of a trace.
-fn put_end(
+// Appends the three lines at the end of a trace: how many preemptions the schedule has, how it
+// ends, and the variables' values.
+fn put_end_lines(
     text: &mut Vec<u8>,
     alloc: Global,
     program: &Program,
@@ -146,13 +148,13 @@ fn put_end(
     ensures { OnOk result (text.new.items ≡ text.old.items ++ end_lines program.now run.now) }
 {
     put_number(text, alloc, b"preemptions ", run.preemptions())?;
-    put_words(text, b"\nkind ", kind_text(run.kind()), b"\nvars")?;
+    put_three_texts(text, b"\nkind ", kind_text(run.kind()), b"\nvars")?;
     put_values(text, alloc, program, run.variables())?;
     text.extend_from_slice(b"\n")?;
     Ok(())
 }
 
-// Writes the values of the variables, each after the variable's name.
+// Appends the names and the values of the variables, as ` x=1 y=2`.
 fn put_values(
     text: &mut Vec<u8>,
     alloc: Global,
@@ -164,20 +166,20 @@ fn put_values(
         (text.new.items ≡ text.old.items ++ values_text program.now 0 values.now) }
 {
     for (x, value) in values.iter().enumerate() {
-        put_name(text, b" ", program.variable_name(x))?;
+        put_two_texts(text, b" ", program.variable_name(x))?;
         put_value(text, alloc, b"=", *value)?;
     }
     Ok(())
 }
 
-// Writes a word and a value.
+// Appends a word and a value in decimal, with nothing added between them.
 fn put_value(text: &mut Vec<u8>, alloc: Global, word: &[u8], value: i64) -> Result<(), AllocError>
     ensures { OnOk result (text.new.items ≡ text.old.items ++ (word.now ++ signed_decimal value)) }
 {
-    put_name(text, word, value.to_string(alloc)?.as_bytes())
+    put_two_texts(text, word, value.to_string(alloc)?.as_bytes())
 }
 
-// Writes a word and a number.
+// Appends a word and a number in decimal, with nothing added between them.
 fn put_number(
     text: &mut Vec<u8>,
     alloc: Global,
@@ -186,11 +188,11 @@ fn put_number(
 ) -> Result<(), AllocError>
     ensures { OnOk result (text.new.items ≡ text.old.items ++ (word.now ++ decimal number)) }
 {
-    put_name(text, word, number.to_string(alloc)?.as_bytes())
+    put_two_texts(text, word, number.to_string(alloc)?.as_bytes())
 }
 
-// Writes three words.
-fn put_words(
+// Appends three texts, with nothing added between them.
+fn put_three_texts(
     text: &mut Vec<u8>,
     first: &[u8],
     second: &[u8],
@@ -199,26 +201,27 @@ fn put_words(
     ensures { OnOk result
         (text.new.items ≡ text.old.items ++ (first.now ++ second.now ++ third.now)) }
 {
-    put_name(text, first, second)?;
+    put_two_texts(text, first, second)?;
     text.extend_from_slice(third)
 }
 
-// Writes a word and a name, or the digits of a number.
-fn put_name(text: &mut Vec<u8>, word: &[u8], name: &[u8]) -> Result<(), AllocError>
-    ensures { OnOk result (text.new.items ≡ text.old.items ++ (word.now ++ name.now)) }
+// Appends two texts, with nothing added between them.
+fn put_two_texts(text: &mut Vec<u8>, first: &[u8], second: &[u8]) -> Result<(), AllocError>
+    ensures { OnOk result (text.new.items ≡ text.old.items ++ (first.now ++ second.now)) }
 {
-    text.extend_from_slice(word)?;
-    text.extend_from_slice(name)
+    text.extend_from_slice(first)?;
+    text.extend_from_slice(second)
 }
 
-// The mark of a preempting switch; no text for another switch.
+// What a step's line says of a preempting switch: ` preempt`; for any other step the empty text.
 fn preempt_text(preempting: bool) -> &'static [u8]
     ensures { result.now ≡ preempt_text preempting }
 {
     if preempting { b" preempt" } else { b"" }
 }
 
-// Why a thread stopped; no text where it didn't.
+// What a step's line says of a thread that stopped: ` stop` and why; the empty text where the
+// thread didn't stop.
 fn stop_text(stop: Option<Stop>) -> &'static [u8]
     ensures { result.now ≡ stop_text stop }
 {
@@ -230,7 +233,7 @@ fn stop_text(stop: Option<Stop>) -> &'static [u8]
     }
 }
 
-// The word of a kind; `none` where the schedule isn't complete.
+// The word for how a schedule ends; `none` where the schedule isn't complete.
 fn kind_text(kind: Option<Kind>) -> &'static [u8]
     ensures { result.now ≡ kind_text kind }
 {

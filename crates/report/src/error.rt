@@ -11,21 +11,21 @@ use thiserror::Error;
 /// Why a search has no report. Out of memory is one error, wherever it was met.
 #[derive(Clone, Copy, Debug, PartialEq, Eq, Error)]
 pub enum ExploreError {
-    /// The text spells no tree.
+    /// The text doesn't parse.
     Syntax(SyntaxError),
-    /// The tree that the text spells is no program.
+    /// The text parses, but is no program.
     Check(CheckError),
     /// Memory ran out.
     OutOfMemory,
 }
 
-/// What the user is told: the number and the name of the refusal, and its place.
 impl fmt::Display for ExploreError {
     ghost use Rattle.std.specs.Prelude.{Some};
     ghost use Rattle.report.specs.ErrorTexts.{explore_error_text};
 
     ghost output = { λ e. Some (explore_error_text e) };
 
+    // The message for the user: that of the syntax or check error, or `memory`.
     fn fmt<W: fmt::Write>(&self, f: &mut fmt::Formatter<W>) -> fmt::Result {
         match self {
             ExploreError::Syntax(error) => write!(f, "{error}"),
@@ -40,6 +40,7 @@ impl From<SyntaxError> for ExploreError {
 
     ghost from_gives = { λ e error. error ≡ of_syntax e };
 
+    // `OutOfMemory` where the error is that memory ran out, else `Syntax` with the error.
     fn from(error: SyntaxError) -> ExploreError {
         match error {
             SyntaxError::OutOfMemory => ExploreError::OutOfMemory,
@@ -53,6 +54,7 @@ impl From<CheckError> for ExploreError {
 
     ghost from_gives = { λ e error. error ≡ of_check e };
 
+    // `OutOfMemory` where the error is that memory ran out, else `Check` with the error.
     fn from(error: CheckError) -> ExploreError {
         match error {
             CheckError::OutOfMemory => ExploreError::OutOfMemory,

@@ -5,8 +5,8 @@
 //!   defined in `specs/Promises.antt`; the searches promise it.
 //! - [`Level`] is what a search found at one bound.
 //! - [`ExploreError`] is why there is no report.
-//! - [`report_text`] prints a report: its text is the defined one, byte for byte. Beside it are the
-//!   values of which its object is made.
+//! - [`report_text`] prints a report as JSON: the defined text, byte for byte. Functions such as
+//!   [`bound_value`] give the JSON values of which a report's object is made.
 #![tactic(auto)]
 
 mod error;

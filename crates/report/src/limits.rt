@@ -1,4 +1,4 @@
-//! The limits of what is asked for.
+//! The greatest bound of a search, and the default quota.
 
 pub use items::limits::BOUND;
 

@@ -33,12 +33,13 @@ pub struct Options {
     /// How many complete schedules one walk tries at most; at least 1. A quota changes no Clean or
     /// Bad report but a quick one's summary.
     pub quota: u32,
-    /// Whether to leave out what can't hold the first bad schedule any more.
+    /// Whether to leave out, once a bad schedule is found, what can't have the first bad one.
     pub quick: bool,
 }
 
 impl Options {
-    /// Options for a search as far as this, with the quota `QUOTA`, no limit, and not a quick one.
+    /// The options of a search that goes as far as `search` says, with no limit, the quota `QUOTA`,
+    /// and not quick.
     pub fn new(search: Search) -> Options
         ensures { result ≡
             record { search = search; limit = None; quota = QUOTA; quick = false } }

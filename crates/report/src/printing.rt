@@ -1,4 +1,4 @@
-//! The text of a report.
+//! Printing of a report as JSON.
 
 ghost use Rattle.std.specs.Prelude.{◌≡◌, IfOk, OnOk};
 ghost use Rattle.serde_json.specs.View.{view, members_view};
@@ -14,7 +14,7 @@ use summary::Summary;
 /// The text of a report: compact JSON of one object, its keys in the order of their bytes, with no
 /// line feed.
 ///
-/// Every report has `bound` (the summary's, or null where the search is unbounded), `ends` (a list
+/// Every report has `bound` (the last that was searched, or null without a bound), `ends` (a list
 /// of the end views, each with its `kind` and the values of the variables, `vars`), the counts
 /// `failed`, `stuck` and `tried`, and `verdict`; a quick one has `"quick":true`. A clean one has
 /// `all`; a bad one `kind`, `preemptions` and `schedule`; an incomplete one `cause`, `finished` (a
@@ -31,7 +31,7 @@ pub fn report_text(alloc: Global, report: &Report) -> Result<Vec<u8>, AllocError
     report_value(alloc, report)?.to_vec(alloc)
 }
 
-/// The object of a report, whose text is [`report_text`].
+/// The JSON object of a report; [`report_text`] prints it.
 ///
 /// # Errors
 ///
@@ -40,16 +40,16 @@ pub fn report_value(alloc: Global, report: &Report) -> Result<Value, AllocError>
     ensures { IfOk result (λ v. view v ≡ report_data report.now) }
 {
     let mut members = Map::new(alloc);
-    put_common(&mut members, alloc, report)?;
+    put_common_members(&mut members, alloc, report)?;
     if report.quick {
         put(&mut members, alloc, "quick", Value::Bool(true))?;
     }
-    put_verdict(&mut members, alloc, report)?;
+    put_verdict_members(&mut members, alloc, report)?;
     Ok(Value::Object(members))
 }
 
-// Puts in the members that every report has.
-fn put_common(
+// Puts into `members` those that every report has: `bound`, `ends`, `failed`, `stuck` and `tried`.
+fn put_common_members(
     members: &mut Map<String, Value>,
     alloc: Global,
     report: &Report,
@@ -66,8 +66,8 @@ fn put_common(
     Ok(())
 }
 
-// Puts in the members that a report has by its verdict.
-fn put_verdict(
+// Puts into `members` the member `verdict`, and those that depend on what the verdict is.
+fn put_verdict_members(
     members: &mut Map<String, Value>,
     alloc: Global,
     report: &Report,
@@ -77,20 +77,24 @@ fn put_verdict(
         (members_view members.old.entries)) }
 {
     match &report.verdict {
-        Verdict::Clean { all } => put_clean(members, alloc, *all),
+        Verdict::Clean { all } => put_clean_members(members, alloc, *all),
         Verdict::Bad {
             preemptions,
             schedule,
             kind,
-        } => put_bad(members, alloc, *preemptions, schedule.as_slice(), *kind),
+        } => put_bad_members(members, alloc, *preemptions, schedule.as_slice(), *kind),
         Verdict::Incomplete { cause, finished } => {
-            put_incomplete(members, alloc, *cause, *finished, &report.summary)
+            put_incomplete_members(members, alloc, *cause, *finished, &report.summary)
         }
     }
 }
 
-// Puts in the members of a clean verdict.
-fn put_clean(members: &mut Map<String, Value>, alloc: Global, all: bool) -> Result<(), AllocError>
+// Puts into `members` those of a clean verdict: `verdict` and `all`.
+fn put_clean_members(
+    members: &mut Map<String, Value>,
+    alloc: Global,
+    all: bool,
+) -> Result<(), AllocError>
     ensures { OnOk result (members_view members.new.entries
         ≡ with_members (clean_members all) (members_view members.old.entries)) }
 {
@@ -104,8 +108,8 @@ fn put_clean(members: &mut Map<String, Value>, alloc: Global, all: bool) -> Resu
     Ok(())
 }
 
-// Puts in the members of a bad verdict.
-fn put_bad(
+// Puts into `members` those of a bad verdict: `verdict`, `kind`, `preemptions` and `schedule`.
+fn put_bad_members(
     members: &mut Map<String, Value>,
     alloc: Global,
     preemptions: u32,
@@ -127,8 +131,9 @@ fn put_bad(
     Ok(())
 }
 
-// Puts in the members of an incomplete verdict.
-fn put_incomplete(
+// Puts into `members` those of an incomplete verdict: `verdict`, `cause`, `finished`, and as
+// `schedule` the first bad one of the summary.
+fn put_incomplete_members(
     members: &mut Map<String, Value>,
     alloc: Global,
     cause: Cause,
@@ -151,7 +156,7 @@ fn put_incomplete(
     Ok(())
 }
 
-/// A bound as a number, or null where there is none.
+/// A bound as JSON: a number, or null where there is none.
 pub fn bound_value(bound: Option<u32>) -> Value
     ensures { view result ≡ bound_data bound }
 {
@@ -161,7 +166,7 @@ pub fn bound_value(bound: Option<u32>) -> Value
     }
 }
 
-// How a schedule ends, in a word.
+// How a schedule ends, as JSON: the word `done`, `failed` or `stuck`.
 fn kind_value(alloc: Global, kind: Kind) -> Result<Value, AllocError>
     ensures { IfOk result (λ v. view v ≡ kind_data kind) }
 {
@@ -172,7 +177,7 @@ fn kind_value(alloc: Global, kind: Kind) -> Result<Value, AllocError>
     }
 }
 
-/// Why a search was cut short, in a word.
+/// Why a search was cut short, as JSON: the word `limit` or `stopped`.
 ///
 /// # Errors
 ///
@@ -186,7 +191,7 @@ pub fn cause_value(alloc: Global, cause: Cause) -> Result<Value, AllocError>
     }
 }
 
-/// A schedule in its printed spelling.
+/// A schedule as JSON: a string of its printed spelling.
 ///
 /// # Errors
 ///
@@ -201,7 +206,8 @@ pub fn schedule_value(alloc: Global, schedule: &[u8]) -> Result<Value, AllocErro
     }
 }
 
-/// The first bad schedule of a summary, or null where there is none.
+/// The first bad schedule of a summary as JSON: a string of its printed spelling, or null where
+/// there is none.
 ///
 /// # Errors
 ///
@@ -215,7 +221,7 @@ pub fn first_bad_value(alloc: Global, summary: &Summary) -> Result<Value, AllocE
     }
 }
 
-/// The array of the end views of a summary.
+/// The end views of a summary as JSON: an array of objects, each with `kind` and `vars`.
 ///
 /// # Errors
 ///
@@ -230,23 +236,19 @@ pub fn ends_value(alloc: Global, summary: &Summary) -> Result<Value, AllocError>
     Ok(Value::Array(ends))
 }
 
-// The object of an end view.
+// An end view as JSON: an object with `kind`, how the schedule ends, and `vars`, the values of the
+// variables.
 fn end_value(alloc: Global, end: &EndView) -> Result<Value, AllocError>
     ensures { IfOk result (λ v. view v ≡ end_data end.now) }
 {
     let mut members = Map::new(alloc);
     put(&mut members, alloc, "kind", kind_value(alloc, end.kind())?)?;
-    put(
-        &mut members,
-        alloc,
-        "vars",
-        values_value(alloc, end.vars())?,
-    )?;
+    put(&mut members, alloc, "vars", vars_value(alloc, end.vars())?)?;
     Ok(Value::Object(members))
 }
 
-// The array of the values of the variables.
-fn values_value(alloc: Global, values: &[i64]) -> Result<Value, AllocError>
+// The values of the variables as JSON: an array of numbers.
+fn vars_value(alloc: Global, values: &[i64]) -> Result<Value, AllocError>
     ensures { IfOk result (λ v. view v ≡ values_data values.now) }
 {
     let mut items = Vec::new(alloc);

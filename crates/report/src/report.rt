@@ -1,4 +1,4 @@
-//! What a search found.
+//! The report of a search: how it ended, and the summary of what was tried.
 
 ghost use Rattle.std.specs.Prelude.{◌≡◌, Some, None, MatchOption};
 ghost use Rattle.report.specs.ReportText.{named_schedule};
@@ -24,10 +24,11 @@ pub enum Verdict {
         /// where the search is unbounded.
         all: bool,
     },
-    /// A schedule is bad. In a bounded search it is the first, by thread numbers place by place,
-    /// of those with fewest preemptions; else the first of all.
+    /// A schedule is bad: in a search up to a bound the first of those with fewest preemptions, in
+    /// an unbounded one the first of all. First is the one that is least as a list of thread
+    /// numbers.
     Bad {
-        /// How many preempting switches the schedule has.
+        /// How many preemptions the schedule has.
         preemptions: u32,
         /// The threads that take the steps, one after the other, by their numbers.
         schedule: Vec<u8>,
@@ -44,10 +45,11 @@ pub enum Verdict {
     },
 }
 
-/// What a search found.
+/// The report of a search: what it found.
 #[derive(Drop)]
 pub struct Report {
-    /// The bound of the summary; `None` where the search is unbounded.
+    /// The bound within which the schedules of the summary are: the last that the search came to.
+    /// `None` where the search is unbounded.
     pub bound: Option<u32>,
     /// How the search ended.
     pub verdict: Verdict,
@@ -59,8 +61,8 @@ pub struct Report {
 }
 
 impl Report {
-    /// The schedule that the text names, if any: the bad one, or where the search was cut short the
-    /// first bad one of those tried.
+    /// The schedule that the report names: that of a bad verdict; where the search was cut short,
+    /// the first bad one of those tried. `None` where no schedule that was tried is bad.
     pub fn schedule(&self) -> Option<&[u8]>
         ensures { MatchOption result
             (named_schedule self.now ≡ None) (λ w. named_schedule self.now ≡ Some w.now) }

@@ -1,4 +1,4 @@
-//! The search of one thread.
+//! Searches by one thread.
 
 ghost use Rattle.std.specs.Prelude.{◌≡◌, ◌≤◌, false, IfOk, IfErr, OnOk};
 ghost use Rattle.std.specs.Arc.{arc_value};
@@ -30,10 +30,10 @@ struct Lone {
 }
 
 impl Lone {
-    // Walks an item of a round and settles the walk; then a quick book drops what can't hold the
-    // first bad schedule any more. An item that the book drops is passed over; the walk of an item
-    // that isn't open is given up.
-    fn walk_item(
+    // Walks an item of a round, up to `quota` schedules, and settles the walk; an item that the
+    // book drops isn't walked. A quick book then drops all open items that can't hold the first bad
+    // schedule any more. The walk of an item that isn't open is given up, the book stays as it is.
+    fn walk_and_settle(
         &mut self,
         alloc: Global,
         book: &mut Book,
@@ -53,7 +53,7 @@ impl Lone {
         }
         self.walker.clear(&mut self.found, book.lists_deferred());
         self.walker
-            .walk_on(alloc, &mut self.found, item, book.mode(), quota)?;
+            .walk_into(alloc, &mut self.found, item, book.mode(), quota)?;
         if !book.settle_all(alloc, slice::from_ref(item), &[0], &mut self.found)? {
             return Ok(());
         }
@@ -61,8 +61,9 @@ impl Lone {
         Ok(())
     }
 
-    // Walks copies of the items of a book's next round in order: items may be dropped in between.
-    fn walk_copies(
+    // Walks the items of a book's next round in order, and settles each walk before the next. Walks
+    // copies of the items, since a quick book may drop its open items after each walk.
+    fn walk_and_settle_each(
         &mut self,
         alloc: Global,
         book: &mut Book,
@@ -77,13 +78,19 @@ impl Lone {
         let mut items = Vec::new(alloc);
         book.next_round(alloc, &mut items)?;
         for item in &items {
-            self.walk_item(alloc, book, item, quota)?;
+            self.walk_and_settle(alloc, book, item, quota)?;
         }
         Ok(())
     }
 
-    // Walks the items of a book's next round in order, and settles the walks.
-    fn walk_round(&mut self, alloc: Global, book: &mut Book, quota: u32) -> Result<(), ExploreError>
+    // Walks the items of a book's next round in order, and settles the walks: those of a quick book
+    // one by one, others all at once.
+    fn walk_and_settle_round(
+        &mut self,
+        alloc: Global,
+        book: &mut Book,
+        quota: u32,
+    ) -> Result<(), ExploreError>
         requires quota { 1 ≤ quota }
         requires book { book.old.of.program ≡ self.old.walker }
         ensures walker { self.new.walker ≡ self.old.walker }
@@ -91,7 +98,7 @@ impl Lone {
         ensures error { IfErr result (λ e. e ≡ OutOfMemory) }
     {
         if book.is_quick() {
-            self.walk_copies(alloc, book, quota)
+            self.walk_and_settle_each(alloc, book, quota)
         } else {
             book.walk_round(alloc, &mut self.walker, &mut self.found, quota)?;
             Ok(())
@@ -99,8 +106,9 @@ impl Lone {
     }
 }
 
-// Walks the rounds of a search at one bound, or without one. Answers how the search ends, if no
-// next bound follows. The gate is told how far the search is, and asked nothing.
+// Walks the rounds of a search at its book's bound, or of one without a bound, and settles the
+// walks, until no further round follows. Answers how the search ends; `None` where it goes on to
+// the next bound. The gate is told after each round how far the search is, and asked nothing.
 fn search_bound<G: Gate>(
     alloc: Global,
     options: Options,
@@ -117,7 +125,7 @@ fn search_bound<G: Gate>(
     ensures error { IfErr result (λ e. e ≡ OutOfMemory) }
 {
     loop {
-        lone.walk_round(alloc, book, options.quota)?;
+        lone.walk_and_settle_round(alloc, book, options.quota)?;
         let _open = book.open_len();
         gate.round_ended(Progress::of(book));
         match judge(options, book, false) {
@@ -128,8 +136,8 @@ fn search_bound<G: Gate>(
     }
 }
 
-/// Searches by one thread, bound after bound, until the search ends. The gate is told after each
-/// round how far the search is.
+/// Searches by one thread, bound after bound, until the search ends. Answers its state then and how
+/// it ended. The gate is told after each round how far the search is, and asked nothing.
 pub(crate) fn search_alone<G: Gate>(
     alloc: Global,
     course: Course,
@@ -159,10 +167,11 @@ pub(crate) fn search_alone<G: Gate>(
 /// The report of a search of a program by one thread.
 ///
 /// A search up to a bound tries all complete schedules with no preemption, then those with at most
-/// one, and so on; it ends at the first bound that a bad schedule is within, at the least bound
-/// that no schedule exceeds, or at the bound that was asked for. An unbounded one tries those that
-/// sleep sets leave. A quick one leaves out what can't hold the first bad schedule any more. Any is
-/// cut short, unless it has its answer, after a round in which the limit was reached.
+/// one, and so on. It ends at the first bound within which a schedule is bad, at the least bound
+/// that no schedule exceeds, or at the bound that was asked for. A search without a bound tries the
+/// schedules that sleep sets leave. A quick one leaves out items that can't hold the first bad
+/// schedule any more. Each search is cut short, unless it has its answer, after a round in which
+/// the limit was reached.
 ///
 /// # Errors
 ///

@@ -1,4 +1,4 @@
-//! A search on its way from bound to bound.
+//! The state of a search from round to round, and from bound to bound.
 
 ghost use Rattle.std.specs.Prelude.{◌≡◌, ◌<◌, ◌≤◌, Bool, [], true, false, None, Some, IfOk, IfErr, OnOk};
 ghost use Rattle.std.specs.Arc.{arc_value};
@@ -26,8 +26,8 @@ use std::alloc::Global;
 use std::sync::Arc;
 use summary::Summary;
 
-/// A search on its way: what it is asked for, its book, and the levels of the bounds that it has
-/// passed, where these are kept.
+/// The state of a search: what it is asked for, its book, and what was found at each bound that it
+/// has passed, as levels, where these are kept.
 #[derive(Drop)]
 pub(crate) struct Course {
     pub options: Options,
@@ -47,7 +47,8 @@ pub(crate) fn preemptions_of(alloc: Global, item: &Item) -> Result<u32, ExploreE
     Ok(run.preemptions() as u32)
 }
 
-// The mode in which a search under a prefix with this many preemptions begins.
+// The first mode in which a search under a prefix tries anything: at the bound of the prefix's own
+// preemptions, or, if the search is unbounded, by sleep sets.
 fn first_mode(search: Search, preemptions: u32) -> Mode
     ensures { result ≡ first_mode search preemptions }
 {
@@ -57,8 +58,9 @@ fn first_mode(search: Search, preemptions: u32) -> Mode
     }
 }
 
-// Whether what a mode puts off is listed, which it is if the search may go on to another bound.
-fn lists_at(search: Search, mode: Mode) -> bool
+// Whether a search keeps a list of the prefixes that walks in a mode defer, for the next bound to
+// open: it does unless the mode's bound is the last that was asked for, or there is no bound.
+fn lists_deferred(search: Search, mode: Mode) -> bool
     ensures { result ≡ lists_at search mode }
 {
     match (search, mode) {
@@ -67,18 +69,24 @@ fn lists_at(search: Search, mode: Mode) -> bool
     }
 }
 
-// Begins the bound to which a search's book has come: what the last bound puts off isn't listed.
+// Prepares a search's book for walks at its bound. If that is the search's last bound, or there is
+// none, the book is made to list no deferred prefixes.
 fn begin_bound(book: &mut Book, search: Search)
     requires lists { book.old.lists ≡ true }
     ensures { book.new ≡ begun search book.old }
 {
-    if !lists_at(search, book.mode()) {
-        book.make_last();
+    if !lists_deferred(search, book.mode()) {
+        book.make_bound_last();
     }
 }
 
-// The book of a program at the start of a search, a quick one or not.
-fn open(alloc: Global, program: Arc<Program>, mode: Mode, quick: bool) -> Result<Book, ExploreError>
+// The book of a program at the start of a search in a mode, a quick one or not.
+fn open_book(
+    alloc: Global,
+    program: Arc<Program>,
+    mode: Mode,
+    quick: bool,
+) -> Result<Book, ExploreError>
     ensures book { IfOk result (λ b. b ≡ opening (arc_value program) mode quick) }
     ensures error { IfErr result (λ e. e ≡ OutOfMemory) }
 {
@@ -89,7 +97,7 @@ fn open(alloc: Global, program: Arc<Program>, mode: Mode, quick: bool) -> Result
     }
 }
 
-/// The search of a program at its start, where nothing is tried. No levels are kept.
+/// The state of a search of a program at its start, where nothing is tried. No levels are kept.
 pub(crate) fn begin_search(
     alloc: Global,
     program: &Arc<Program>,
@@ -100,7 +108,7 @@ pub(crate) fn begin_search(
 {
     let program = Arc::try_clone(program)?;
     let mode = first_mode(options.search, 0);
-    let mut book = open(alloc, program, mode, options.quick)?;
+    let mut book = open_book(alloc, program, mode, options.quick)?;
     begin_bound(&mut book, options.search);
     Ok(Course {
         options,
@@ -109,8 +117,9 @@ pub(crate) fn begin_search(
     })
 }
 
-/// The level of a bound that an item's own prefix exceeds: nothing is tried, and all is beyond.
-pub(crate) fn level_past(alloc: Global, bound: u32) -> Level
+/// The level of a bound at which nothing is tried, since the item's own prefix exceeds it. Its
+/// summary is empty, but for a note that there are schedules beyond the bound.
+pub(crate) fn untried_level(alloc: Global, bound: u32) -> Level
     ensures { result ≡
         record { bound = Some bound; summary = with_beyond nothing true; cause = None } }
 {
@@ -123,34 +132,36 @@ pub(crate) fn level_past(alloc: Global, bound: u32) -> Level
     }
 }
 
-/// The levels of the bounds below `end`, for an item whose own prefix exceeds these bounds.
-pub(crate) fn levels_past(alloc: Global, end: u32) -> Result<Vec<Level>, ExploreError>
+/// The levels of the bounds from 0 to below `end`, at which nothing is tried, since the item's own
+/// prefix exceeds them.
+pub(crate) fn untried_levels(alloc: Global, end: u32) -> Result<Vec<Level>, ExploreError>
     ensures levels { IfOk result (λ v. (i : ItemView) → IsItem i →
         end ≤ preemptions i.program i.prefix → AreBelow i (Bounded end) v.items) }
     ensures error { IfErr result (λ e. e ≡ OutOfMemory) }
 {
     let mut levels = Vec::new(alloc);
     for bound in 0..end {
-        levels.push(level_past(alloc, bound))?;
+        levels.push(untried_level(alloc, bound))?;
     }
     Ok(levels)
 }
 
-// The levels of the bounds below the mode in which a search under a prefix begins, where the prefix
-// has this `number` of preemptions.
+// The levels of the bounds at which a search under a prefix tries nothing: those below `number`,
+// the preemptions that the prefix has. There are none where the search is unbounded.
 fn levels_below(alloc: Global, search: Search, number: u32) -> Result<Vec<Level>, ExploreError>
     ensures levels { IfOk result (λ v. (i : ItemView) → IsItem i →
         number ≡ preemptions i.program i.prefix → AreBelow i (first_mode search number) v.items) }
     ensures error { IfErr result (λ e. e ≡ OutOfMemory) }
 {
     match search {
-        Search::UpTo(_) => levels_past(alloc, number),
+        Search::UpTo(_) => untried_levels(alloc, number),
         Search::Unbounded => Ok(Vec::new(alloc)),
     }
 }
 
-/// The search under an item whose prefix has this `number` of preemptions, at its start: in the
-/// first mode in which something is tried. Levels are kept.
+/// The state of a search under an item at its start, in the first mode in which anything is tried.
+/// The item's prefix has `number` preemptions. Levels are kept; those of the bounds below `number`
+/// are there from the start.
 pub(crate) fn begin_search_under(
     alloc: Global,
     item: Item,
@@ -188,7 +199,7 @@ fn level_of(alloc: Global, book: &Book, cause: Option<Cause>) -> Result<Level, E
     })
 }
 
-// Adds the level of a book's finished bound to the levels, where levels are kept.
+// Adds the level of a book's finished bound to `levels`; does nothing where these are `None`.
 fn keep_level(
     alloc: Global,
     book: &Book,
@@ -208,7 +219,8 @@ fn keep_level(
     }
 }
 
-/// Goes on from a book's finished bound to the next, and keeps its level, where levels are kept.
+/// Raises a book whose bound is finished to the next bound, to which its search goes on. Before
+/// that, adds the finished bound's level to `levels`, unless these are `None`.
 pub(crate) fn raise(
     alloc: Global,
     options: Options,
@@ -239,7 +251,8 @@ pub(crate) fn raise(
     }
 }
 
-/// The levels of a search that kept levels and has ended with this ending.
+/// The levels of a search that has ended with this ending and kept levels: those of the bounds that
+/// it has passed, then that of the book's bound.
 pub(crate) fn levels_at_end(
     alloc: Global,
     course: Course,

@@ -13,14 +13,14 @@ use summary::Summary;
 /// How a search ends.
 #[derive(Clone, Copy)]
 pub(crate) enum Ending {
-    /// All was tried at a bound after which the search doesn't go on.
+    /// All is tried at a bound, or without one, after which the search doesn't go on.
     Whole,
     /// The search is cut short.
     Cut(Cause),
 }
 
 impl Ending {
-    /// Why the search is cut short, if it is.
+    /// Why the search is cut short; `None` where it isn't.
     pub(crate) fn cause(self) -> Option<Cause>
         ensures { result ≡ ending_cause self }
     {
@@ -42,8 +42,9 @@ pub(crate) enum Next {
     End(Ending),
 }
 
-// Whether a mode is the last one of a search that comes to it.
-fn is_last(search: Search, mode: Mode) -> bool
+// Whether a mode is the last of a search: its bound is the one that was asked for, or both have no
+// bound. No other pair is given here: a mode has a bound exactly where its search has one.
+fn is_last_mode(search: Search, mode: Mode) -> bool
     requires { IsModeOf search mode }
     ensures { IsTrue result ↔ IsLast search mode }
 {
@@ -53,15 +54,17 @@ fn is_last(search: Search, mode: Mode) -> bool
     }
 }
 
-/// Whether a search that has tried all at a mode, with this summary, goes on to the next bound.
-pub(crate) fn goes_on(search: Search, mode: Mode, summary: &Summary) -> bool
+/// Whether a search goes on to the next bound, once all is tried in a mode, with this summary: no
+/// schedule is bad, some exceed the bound, and the mode isn't the search's last.
+pub(crate) fn needs_next_bound(search: Search, mode: Mode, summary: &Summary) -> bool
     requires { IsModeOf search mode }
     ensures { IsTrue result ↔ GoesOn search mode summary.now }
 {
-    summary.first_bad().is_none() && summary.beyond() && !is_last(search, mode)
+    summary.first_bad().is_none() && summary.beyond() && !is_last_mode(search, mode)
 }
 
-// Why a search is cut short after a round, if it is: stopped by a gate, or at its limit.
+// Why a search is cut short after a round that leaves it without an answer: the gate `stopped` a
+// worker, or as many schedules as the limit are tried. `None` where it isn't cut short.
 fn cause_of(limit: Option<u64>, summary: &Summary, stopped: bool) -> Option<Cause>
     ensures some { IfSome result (IsCause stopped limit summary.now) }
     ensures none { IfNone result (HasNoCause stopped limit summary.now) }
@@ -75,15 +78,15 @@ fn cause_of(limit: Option<u64>, summary: &Summary, stopped: bool) -> Option<Caus
     }
 }
 
-/// What comes next after a round of a search that has come to a mode, where a worker was stopped or
-/// not. A bound that is finished and after which the search doesn't go on ends it as a whole, also
-/// where it would be cut short else.
+/// What comes next after a round of a search with this book: another round, the next bound, or the
+/// end. `stopped` says whether the gate stopped a worker. Where all is tried and no next bound
+/// follows, the search isn't cut short, even if a worker was stopped or the limit is reached.
 pub(crate) fn judge(options: Options, book: &Book, stopped: bool) -> Next
     requires { IsModeOf options.search book.now.mode }
     ensures { Comes stopped options book.now result }
 {
     let is_open = book.open_len() > 0;
-    if !is_open && !goes_on(options.search, book.mode(), book.finished()) {
+    if !is_open && !needs_next_bound(options.search, book.mode(), book.finished()) {
         return Next::End(Ending::Whole);
     }
     match cause_of(options.limit, book.finished(), stopped) {

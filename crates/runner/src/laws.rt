@@ -12,8 +12,8 @@ ghost use Rattle.report.specs.ReportText.{report_text};
 
 use crate::limits::{QUOTA, WORKERS};
 
-/// Two reports of one program and search that aren't quick and were not cut short have one text. So
-/// that text depends neither on workers, gate and quota, nor on a limit that was not reached.
+/// Two reports of one program and search have the same text, if neither is quick or was cut short.
+/// So the text doesn't depend on workers, gate and quota, nor on a limit that was not reached.
 pub fn reports_agree()
     ensures { (may other : Bool) (p : Program) (o q : Options) (r s : Report) →
         o.search ≡ q.search → o.quick ≡ false → q.quick ≡ false →
@@ -21,7 +21,7 @@ pub fn reports_agree()
         IsWhole r.verdict → IsWhole s.verdict → report_text r ≡ report_text s }
 {}
 
-/// The number of each limit.
+/// By default a walk tries at most 256 schedules. A search has at most 16 workers.
 pub fn limits_are()
     ensures quota { QUOTA ≡ 256 }
     ensures workers { WORKERS ≡ 16 }

@@ -12,7 +12,7 @@ ghost use Rattle.report.specs.Promises.{IsReport};
 ghost use Rattle.runner.specs.Levels.{IsModeOf, GoesOn, IsOfProgram, HasPassed};
 ghost use Rattle.runner.specs.inner.Judging.{IsAt, IsFound, IsFinishedIn, IsBoundBelow, IsVerdictOn, Ends, report_in};
 
-use crate::judge::{Ending, goes_on};
+use crate::judge::{Ending, needs_next_bound};
 use book::books::Book;
 use book::progress::mode_bound;
 use guest_code::laws::programs_are_well_formed;
@@ -25,7 +25,7 @@ use semantics::view::Kind;
 use std::alloc::Global;
 use summary::Summary;
 
-/// The run of a schedule that runs.
+/// The run of a schedule that is known to run in the program: its replay.
 pub(crate) fn run_of(alloc: Global, program: &Program, schedule: &[u8]) -> Result<Run, ExploreError>
     requires { runs program.now (start program.now) schedule.now ≡ true }
     ensures run { IfOk result (IsRunOf program.now schedule.now) }
@@ -51,7 +51,7 @@ fn kind_of(run: &Run) -> Kind
     }
 }
 
-/// How a complete schedule ends, and its preemptions.
+/// How a complete schedule ends, and how many preemptions it has.
 ///
 /// # Errors
 ///
@@ -71,7 +71,8 @@ pub fn end_of(
     Ok((kind_of(&run), run.preemptions() as u32))
 }
 
-// The verdict on the summary of a search that has tried all: its bad schedule, or that none is bad.
+// The verdict of a search that has tried all, with this summary: bad, with the first bad schedule,
+// or clean where no schedule is bad.
 fn verdict_on(alloc: Global, program: &Program, summary: &Summary) -> Result<Verdict, ExploreError>
     requires { IsOfProgram program.now summary.now.first_bad }
     ensures verdict { IfOk result (IsVerdictOn program.now summary.now) }
@@ -89,7 +90,7 @@ fn verdict_on(alloc: Global, program: &Program, summary: &Summary) -> Result<Ver
     })
 }
 
-// The report of a search that ends in a mode with this summary and this verdict.
+// The report of a search that ends in a mode with this summary and verdict.
 fn report_in(
     alloc: Global,
     options: Options,
@@ -108,8 +109,8 @@ fn report_in(
     })
 }
 
-// The report of a search that has tried all at a mode, with this summary, and ends there.
-fn report_whole(
+// The report of a search that ends in a mode in which all is tried, with this summary.
+fn whole_report(
     alloc: Global,
     program: &Program,
     options: Options,
@@ -127,11 +128,12 @@ fn report_whole(
     report_in(alloc, options, mode, summary, verdict)
 }
 
-/// The report of a search that comes to this summary of all of the program's schedules at a mode,
-/// if the search ends there: a bad schedule was found, nothing is beyond, or the mode is the last.
-/// Else none, and the search goes on to the next bound.
+/// The report of a search, if it ends in this mode with this summary of all of the program's
+/// schedules in the mode: one is bad, none exceeds the bound, or the mode is the last. `None` where
+/// the search goes on to the next bound.
 ///
-/// The report is right where the bounds below are passed and the summary is the program's.
+/// The report is right where the search has passed all bounds below the mode's, and the summary is
+/// that of all the schedules.
 ///
 /// # Errors
 ///
@@ -150,14 +152,15 @@ pub fn report_of(
     ensures none { IfOk result (λ o. IfNone o (GoesOn options.search mode summary.now)) }
     ensures error { IfErr result (λ e. e ≡ OutOfMemory) }
 {
-    if goes_on(options.search, mode, summary) {
+    if needs_next_bound(options.search, mode, summary) {
         return Ok(None);
     }
-    let report = report_whole(alloc, program, options, mode, summary)?;
+    let report = whole_report(alloc, program, options, mode, summary)?;
     Ok(Some(report))
 }
 
-// What a book, quick or not, found: if nothing is open, and it is of `program`'s root and `mode`.
+// The summary of what a book, quick or not, found of all schedules of a program in a mode. `None`
+// where an item is open, or the book isn't of the program's root and this mode.
 fn found_summary<'a>(book: &'a Book, program: &Program, mode: Mode) -> Option<&'a Summary>
     ensures some { IfSome result (λ s.
         (s.now ≡ book.now.finished) × IsClosed book.now program.now mode) }
@@ -165,6 +168,7 @@ fn found_summary<'a>(book: &'a Book, program: &Program, mode: Mode) -> Option<&'
     ensures found { IfSome result (λ s. IsFound book.now.quick program.now mode s.now) }
     ensures kept { Keeps book.now }
 {
+    // Called for its contract alone.
     let _open = book.open_len();
     if book.is_quick() {
         book.closed_quick(program, mode)
@@ -173,7 +177,7 @@ fn found_summary<'a>(book: &'a Book, program: &Program, mode: Mode) -> Option<&'
     }
 }
 
-// The bound below a mode's bound, if there is one.
+// The bound one below a mode's; `None` where the mode's bound is 0, or it has none.
 fn bound_below(mode: Mode) -> Option<u32>
     ensures { IsBoundBelow mode result }
 {
@@ -183,8 +187,9 @@ fn bound_below(mode: Mode) -> Option<u32>
     }
 }
 
-// The last bound that is finished, if any, where a search of a program stands at this book.
-fn last_finished(program: &Program, book: &Book) -> Option<u32>
+// The last bound that a search of a program has finished, by its book: the book's, if no item is
+// open, else the one below it. `None` where there is no such bound.
+fn last_finished_bound(program: &Program, book: &Book) -> Option<u32>
     requires passed { HasPassed (root_of program.now) book.now.mode }
     requires none { book.now.open_items ≡ [] → book.now.finished.first_bad ≡ None }
     ensures { IsFinishedIn program.now book.now.mode result }
@@ -196,7 +201,8 @@ fn last_finished(program: &Program, book: &Book) -> Option<u32>
     }
 }
 
-/// The report of a search of a program that has ended with this ending, and with this book.
+/// The report of a search of a program that has ended with this ending, by its book. The verdict is
+/// incomplete where the search was cut short.
 pub(crate) fn report_at_end(
     alloc: Global,
     program: &Program,
@@ -213,11 +219,11 @@ pub(crate) fn report_at_end(
     let mode = book.mode();
     match ending {
         Ending::Whole => match found_summary(book, program, mode) {
-            Some(summary) => report_whole(alloc, program, options, mode, summary),
+            Some(summary) => whole_report(alloc, program, options, mode, summary),
             None => unreachable!(),
         },
         Ending::Cut(cause) => {
-            let finished = last_finished(program, book);
+            let finished = last_finished_bound(program, book);
             let verdict = Verdict::Incomplete { cause, finished };
             report_in(alloc, options, mode, book.finished(), verdict)
         }

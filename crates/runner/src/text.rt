@@ -1,4 +1,4 @@
-//! Searches of a text.
+//! Searches of the program that a text spells.
 
 ghost use Rattle.std.specs.Prelude.{◌≤◌, false, IfOk, IfErr};
 ghost use Rattle.std.specs.Arc.{arc_value};
@@ -21,8 +21,8 @@ use workers::Gate;
 ///
 /// # Errors
 ///
-/// `Syntax` where the text spells no tree, `Check` with the first fault of the tree that it spells,
-/// `OutOfMemory` where memory runs out.
+/// `Syntax` where the text doesn't parse, `Check` with the first fault of a text that parses but is
+/// no program, `OutOfMemory` where memory runs out.
 pub fn program_of(alloc: Global, text: &[u8]) -> Result<Arc<Program>, ExploreError>
     ensures program { IfOk result (λ p. IsProgramOf text.now (arc_value p)) }
     ensures error { IfErr result (ExploreErrorMeans text.now) }

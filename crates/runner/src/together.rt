@@ -1,4 +1,4 @@
-//! The search of several threads.
+//! Searches by several workers, each in a thread.
 
 ghost use Rattle.std.specs.Prelude.{◌≡◌, ◌≤◌, ◌<◌, Bool, IfOk, IfErr, OnOk, IfSome, IfNone};
 ghost use Rattle.std.specs.Arc.{arc_value};
@@ -11,8 +11,8 @@ ghost use Rattle.runner.specs.inner.Judging.{IsAt, AreKept, HasEnded, Ends, firs
 
 use crate::alone::search_alone;
 use crate::course::{
-    Course, begin_search, begin_search_under, level_past, levels_at_end, levels_past,
-    preemptions_of, raise,
+    Course, begin_search, begin_search_under, levels_at_end, preemptions_of, raise, untried_level,
+    untried_levels,
 };
 use crate::judge::{Ending, Next, judge};
 use crate::reports::report_at_end;
@@ -26,10 +26,11 @@ use std::sync::{Arc, Wait};
 use std::thread::Threads;
 use workers::{Gate, Team};
 
-// What follows a round that was settled in this book, where a worker was `stopped` or not: the
-// answer is how the search ends, or none where another round of the book follows. A quick book
-// first drops what can't hold the first bad schedule any more.
-fn after_round(
+// Judges how a search goes on after rounds that are settled in its book; `stopped` says whether the
+// gate stopped a worker. Answers how the search ends; `None` where another round follows. If that
+// is one of the next bound, raises the book to it. Before it judges, drops the open items of a
+// quick book that can't hold the first bad schedule any more.
+fn judge_and_raise(
     alloc: Global,
     options: Options,
     book: &mut Book,
@@ -56,7 +57,8 @@ fn after_round(
     }
 }
 
-// Searches by several workers, from 1 to `WORKERS`, until the search ends; see `explore`.
+// Searches by several workers, from 1 to `WORKERS`, until the search ends; a single one works in
+// this thread. Answers the search's state then and how it ended.
 fn search<G: Gate, R: Threads + Wait + Sync>(
     rt: &R,
     alloc: Global,
@@ -81,11 +83,11 @@ fn search<G: Gate, R: Threads + Wait + Sync>(
     } = course;
     let mut team = Team::new(alloc, book, workers)?;
     for _ in rt.forever() {
-        let (next, stretch) = team.walk_rounds(rt, alloc, gate, options)?;
-        let stopped = stretch.is_stopped()?;
+        let (next, exit) = team.walk_and_settle_rounds(rt, alloc, gate, options)?;
+        let stopped = exit.is_stopped()?;
         team = next;
         gate.round_ended(Progress::of(&team.book));
-        let next = after_round(alloc, options, &mut team.book, &mut levels, stopped)?;
+        let next = judge_and_raise(alloc, options, &mut team.book, &mut levels, stopped)?;
         if let Some(ending) = next {
             let book = team.book;
             let course = Course {
@@ -101,19 +103,22 @@ fn search<G: Gate, R: Threads + Wait + Sync>(
 
 /// The report of a search of a program by several workers, from 1 to [`WORKERS`](crate::WORKERS).
 ///
-/// The search goes by rounds. The workers draw the items of a round one by one; each asks the gate,
-/// walks the item while it holds no lock, and settles some walks at a time in the one book that all
-/// share. Where the gate may not stop and many items are open, each worker has rounds of its own
-/// instead. Workers go from round to round in the threads that they have, until the round after
-/// which something has to be judged: the last of a bound, one in which the limit was reached or the
-/// gate stopped a worker, and in a quick search one in which a bad schedule was found. The report
-/// is that of [`explore_alone`], whatever the workers and the quota, but for the numbers of an
-/// incomplete one, and for what a quick search leaves out. A limit may be passed by what the rounds
-/// try that are walked when it is reached.
+/// The search goes by rounds. The workers draw the items of a round one by one. Each asks the gate,
+/// and walks the item while it holds no lock. What some walks found is settled together: it is
+/// entered in the search's book, which all workers share and which has what is finished and what is
+/// still open. Where the gate may not stop and many items are open, each worker has rounds of its
+/// own instead. Workers go from round to round in the threads that they have, up to a round after
+/// which it has to be decided how the search goes on: the last of a bound, one in which the limit
+/// was reached or the gate stopped a worker, and, where [`Options::quick`] is set, one in which a
+/// bad schedule was found.
+///
+/// The report is that of [`explore_alone`], whatever the workers and the quota, but for the numbers
+/// of an incomplete report, and for what a quick search leaves out. More schedules may be tried
+/// than the limit says: rounds that have begun when it is reached are walked to their end.
 ///
 /// A worker that the gate stops walks no more in its round. Where the search has no answer then, it
-/// is cut short. A single worker asks the gate nothing, and tells it after each round how far the
-/// search is, as several do.
+/// is cut short. A single worker doesn't ask the gate; it only tells it after each round how far
+/// the search is, as several do.
 ///
 /// The contract holds if the call returns. That it does is not proved: workers wait for the lock of
 /// the book, for the gate, and for a round to end.
@@ -140,7 +145,7 @@ pub fn explore<G: Gate, R: Threads + Wait + Sync>(
     report_at_end(alloc, program, options, &course.book, ending)
 }
 
-// The last bound of a search, if a prefix with this many preemptions exceeds that bound.
+// The last bound of a search, if a prefix with this many preemptions exceeds it; else `None`.
 fn exceeded_bound(search: Search, preemptions: u32) -> Option<u32>
     ensures past { IfSome result (λ last. (search ≡ UpTo last) × (last < preemptions)) }
     ensures within { IfNone result (IsModeOf search (first_mode search preemptions)) }
@@ -152,11 +157,11 @@ fn exceeded_bound(search: Search, preemptions: u32) -> Option<u32>
 }
 
 /// What a search under an item finds by several workers, as [`explore`] does under the root of a
-/// program: the levels of the bounds from 0 on, up to the first at which something under the item
-/// is bad or nothing under it is beyond, or to the bound that was asked for; one level, where the
-/// search is unbounded. At a bound that the item's own prefix exceeds nothing is tried, and all is
-/// beyond. Where the search is cut short, the last level has the cause. No search
-/// under an item is quick, whatever the options say.
+/// program: a level for each bound, from 0 to the first at which a schedule under the item is bad
+/// or none under it exceeds the bound, or to the bound that was asked for. It is one level where
+/// the search is unbounded. At a bound that the item's own prefix exceeds nothing is tried, and the
+/// level says that there are schedules beyond the bound. Where the search is cut short, the last
+/// level has the cause. No search under an item is quick, whatever the options say.
 ///
 /// As that of [`explore`], the contract holds if the call returns.
 ///
@@ -180,8 +185,8 @@ pub fn explore_under<G: Gate, R: Threads + Wait + Sync>(
 {
     let preemptions = preemptions_of(alloc, &item)?;
     if let Some(last) = exceeded_bound(options.search, preemptions) {
-        let mut levels = levels_past(alloc, last)?;
-        levels.push(level_past(alloc, last))?;
+        let mut levels = untried_levels(alloc, last)?;
+        levels.push(untried_level(alloc, last))?;
         return Ok(levels);
     }
     let options = Options {

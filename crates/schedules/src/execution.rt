@@ -27,7 +27,7 @@ impl Model for Execution {
 }
 
 impl Execution {
-    /// The execution of the empty schedule.
+    /// The execution of the empty schedule, before the first step of the program.
     ///
     /// # Errors
     ///
@@ -43,7 +43,7 @@ impl Execution {
         })
     }
 
-    /// An equal execution.
+    /// A copy of the execution.
     ///
     /// # Errors
     ///
@@ -72,15 +72,15 @@ impl Execution {
         self.last
     }
 
-    /// How many of the switches so far were preempting; at most as many as steps were taken.
+    /// How many of the steps so far were preemptions: switches from a thread still enabled.
     pub fn preemptions(&self) -> usize
         ensures { result ≡ self.now.preemptions }
     {
         self.preemptions
     }
 
-    /// Whether a step of this thread is a preempting switch: another thread took the last step and
-    /// is still enabled.
+    /// Whether a step of this thread is a preemption: another thread took the last step and is
+    /// still enabled. False before the first step.
     pub fn preempts(&self, program: &Program, thread: u8) -> bool
         requires { IsExecutionOf program.now self.now }
         ensures { result ≡ preempts program.now self.now.state self.now.last thread }
@@ -91,7 +91,8 @@ impl Execution {
         }
     }
 
-    /// Takes a step of a thread that is enabled.
+    /// Takes a step of a thread that is enabled, counts it where it is a preemption, and notes the
+    /// thread as the last one.
     pub fn step(&mut self, program: &Program, thread: u8)
         requires of { IsExecutionOf program.now self.old }
         requires enabled { IsTrue (is_enabled program.now self.old.state thread) }

@@ -7,14 +7,13 @@
 //!   and the preemptions so far, and its contract says which schedule has led to it.
 //! - [`independence::independent`] says whether the next steps of two threads are independent: then
 //!   each leaves the other enabled, and both orders lead to one state.
-//! - [`independence::sleepers_after`] says who sleeps after a step: whatever a sleeping thread
+//! - [`independence::sleep_set_after`] says who sleeps after a step: whatever a sleeping thread
 //!   leads to is met in an earlier schedule too.
 //!
-//! [`laws`] says of the definitions what a search for bugs rests on: all complete schedules are one
-//! list, in order and each once; they are short; how many preemptions a schedule has, and which
-//! ones begin with a prefix or are within a bound; that independent steps commute; and that what
-//! sleep sets leave has all end views and the least bad schedule. What holds of every state that a
-//! schedule leads to, and three programs with all their schedules, are laws too.
+//! [`laws`] says of the definitions what a search for bugs rests on: complete schedules are one
+//! list, in order, each once, and short; how preemptions count; which are under a prefix, or within
+//! a bound; that independent steps commute; that what sleep sets leave has all end views and the
+//! least bad schedule. Others are of states that schedules lead to, and of three small programs.
 #![tactic(auto)]
 
 pub mod execution;

@@ -16,19 +16,21 @@ use std::sync::Wait;
 use std::test::*;
 use std::thread::Threads;
 
+/// Thread B fails where it reads between the two stores of thread A, as in the schedule `0,1,0`.
 const RACE: &str =
     "var x; thread A { store x 1; store x 0; } thread B { load r x; assert r == 0; }";
 
+/// The line of a fault where input can't be read or output can't be written.
 const FILE_FAULT: &[u8] = b"ctxbound: file\n";
 
-/// A request for a replay of this schedule.
+// A request for a replay of this schedule.
 fn replay_request(alloc: Global, schedule: &str) -> Result<GuestRequest, Fail> {
     Ok(GuestRequest::Replay {
         schedule: String::from_str(alloc, schedule)?,
     })
 }
 
-/// A request for a search by one worker.
+// A request for a search with these options by one worker, which tells no progress.
 fn search_request(options: Options) -> GuestRequest
     requires search { IsSearch options.search }
     requires quota { 1 ≤ options.quota }
@@ -40,8 +42,9 @@ fn search_request(options: Options) -> GuestRequest
     })
 }
 
-/// Serves a request over a reader that fails at this call, and compares what is written as the line
-/// of a fault: answers the status, how much output there is, and the calls of the reader.
+// Serves a request over a reader of `text` that fails at the call `fails_at`, counted from 0.
+// Checks that `line` is written as the error; answers the status, how many bytes are output, and
+// the calls of the reader.
 fn serve_failing_reader(
     rt: &(impl Abort + Threads + Wait + Sync + Eprint + Alloc<A = Global>),
     request: &GuestRequest,
@@ -62,8 +65,8 @@ fn serve_failing_reader(
     (status, out.len(), input.calls)
 }
 
-/// Serves a request over a writer that fails at this call, and compares what is written as the line
-/// of a fault: answers the status and the calls of the writer.
+// Serves a request on `RACE` over a writer that fails at the call `fails_at`, counted from 0.
+// Checks that `line` is written as the error; answers the status and the calls of the writer.
 fn serve_failing_writer(
     rt: &(impl Abort + Threads + Wait + Sync + Eprint + Alloc<A = Global>),
     request: &GuestRequest,
@@ -79,8 +82,9 @@ fn serve_failing_writer(
     (status, out.calls)
 }
 
-/// The output of a request where no device fails.
-fn output_of(
+// The output of a request on `RACE` where no device fails. Checks that there is some, and that
+// nothing is written to the error stream.
+fn checked_output(
     rt: &(impl Abort + Threads + Wait + Sync + Eprint + Alloc<A = Global>),
     request: &GuestRequest,
 ) -> Vec<u8> {
@@ -93,7 +97,8 @@ fn output_of(
     out
 }
 
-/// Lets each call of a reader fail in turn: the program says so, and doesn't try the call again.
+// Lets each call of a reader of `RACE` fail in turn. Checks that the error is `FILE_FAULT` and the
+// status 4, that there is no output, and that the reader isn't called again.
 fn check_failing_readers(
     rt: &(impl Abort + Threads + Wait + Sync + Eprint + Alloc<A = Global>),
     request: &GuestRequest,
@@ -105,18 +110,21 @@ fn check_failing_readers(
     }
 }
 
-/// Lets each call of a writer fail in turn: the program says so, and doesn't try the call again.
+// Lets each call of a writer fail in turn, for each byte and the flush, for a request on `RACE`.
+// Checks that the error is `FILE_FAULT` and the status 4, and that the writer isn't called again.
 fn check_failing_writers(
     rt: &(impl Abort + Threads + Wait + Sync + Eprint + Alloc<A = Global>),
     request: &GuestRequest,
 ) {
-    let length = output_of(rt, request).len();
+    let length = checked_output(rt, request).len();
     for fails_at in 0..=length {
         let counts = serve_failing_writer(rt, request, fails_at, FILE_FAULT);
         assert_eq!(rt; counts, (4, fails_at + 1));
     }
 }
 
+// A replay of a complete schedule of `RACE`, where each call of its reader, and then each call of
+// its writer, fails in turn.
 #[test]
 fn says_that_a_device_failed(rt: HostRuntime) -> Result<(), Fail> {
     let request = replay_request(rt.alloc(), "0,1,0")?;
@@ -125,6 +133,8 @@ fn says_that_a_device_failed(rt: HostRuntime) -> Result<(), Fail> {
     Ok(())
 }
 
+// A search of `RACE` up to bound 2, and one without a bound, where each call of the reader, and
+// then each call of the writer, fails in turn.
 #[test]
 fn says_that_a_device_failed_in_a_search(rt: HostRuntime) {
     for request in &[
@@ -136,6 +146,8 @@ fn says_that_a_device_failed_in_a_search(rt: HostRuntime) {
     }
 }
 
+// A text of 65,537 blanks is one byte too long. It is refused with status 2 and no output, after
+// one call of the reader for each byte. The next call, which would fail, isn't made.
 #[test]
 fn reads_no_further_than_it_must(rt: HostRuntime) -> Result<(), Fail> {
     let mut text = Vec::new(rt.alloc());
@@ -147,8 +159,8 @@ fn reads_no_further_than_it_must(rt: HostRuntime) -> Result<(), Fail> {
     Ok(())
 }
 
-/// The status of a request where neither output nor errors can be written.
-fn status_alone(
+// The status of a request on `RACE` where neither output nor errors can be written.
+fn status_of_unwritten(
     rt: &(impl Threads + Wait + Sync + Eprint + Alloc<A = Global>),
     request: &GuestRequest,
 ) -> u8 {
@@ -158,12 +170,14 @@ fn status_alone(
     exit_status(serve(rt, request, &mut input, &mut out, &mut err), &mut err)
 }
 
+// `0,` spells no schedule: the status is 2, the writer isn't called, and it is 2 also where the
+// error can't be written. A fault of memory has status 4, though its line can't be written.
 #[test]
 fn keeps_its_status_where_a_stream_fails(rt: HostRuntime) -> Result<(), Fail> {
     let request = replay_request(rt.alloc(), "0,")?;
     let line = b"ctxbound: schedule Q1 BadSchedule at 2\n";
     assert_eq!(rt; serve_failing_writer(&rt, &request, 0, line), (2, 0));
-    assert_eq!(rt; status_alone(&rt, &request), 2);
+    assert_eq!(rt; status_of_unwritten(&rt, &request), 2);
     let mut err = FailingWriter::at(0);
     assert_eq!(rt; Fault::Memory.report(&mut err), 4);
     Ok(())

@@ -23,13 +23,13 @@ const COUNTERS: &str =
 const THREE: &str =
     "var x; var y; var z; thread A { store x 1; } thread B { store y 1; } thread C { store z 1; }";
 
-/// The program of a text.
+// The program that a text spells.
 fn program_of(alloc: Global, text: &str) -> Result<Arc<Program>, Fail> {
     let tree = parse(alloc, text.as_bytes())?;
     Ok(Arc::new(alloc, lower(alloc, &tree)?)?)
 }
 
-/// The text of the report of a search of a text, by one worker.
+// The report, as a text, of a search of a text's program by one worker; an error if it has none.
 fn search_report(alloc: Global, text: &str, options: Options) -> Result<Vec<u8>, Fail>
     requires search { IsSearch options.search }
     requires quota { 1 ≤ options.quota }
@@ -40,6 +40,8 @@ fn search_report(alloc: Global, text: &str, options: Options) -> Result<Vec<u8>,
     }
 }
 
+// `COUNTERS` has two schedules without a preemption. Both are done, with 2 in `x`. There are
+// schedules beyond the bound, so `all` is false.
 #[test]
 fn searches_up_to_a_bound(rt: HostRuntime) -> Result<(), Fail> {
     let found = search_report(rt.alloc(), COUNTERS, Options::new(Search::UpTo(0)))?;
@@ -49,6 +51,8 @@ fn searches_up_to_a_bound(rt: HostRuntime) -> Result<(), Fail> {
     Ok(())
 }
 
+// Of the six schedules of `COUNTERS`, sleep sets leave four, which are all that is tried. All are
+// done, with 1 or 2 in `x`.
 #[test]
 fn searches_without_a_bound(rt: HostRuntime) -> Result<(), Fail> {
     let found = search_report(rt.alloc(), COUNTERS, Options::new(Search::Unbounded))?;

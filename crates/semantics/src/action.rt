@@ -1,4 +1,4 @@
-//! What a thread does next.
+//! Which step a thread takes next, by its status and its instruction.
 
 ghost use Rattle.std.specs.Prelude.{◌≡◌, Some};
 ghost use Rattle.semantics.specs.Machine.{action_of, retake_of, action_at, owns};
@@ -6,7 +6,7 @@ ghost use Rattle.semantics.specs.Machine.{action_of, retake_of, action_at, owns}
 use crate::state::{Action, ConditionAction, MutexAction, SemaphoreAction, Status, VariableAction};
 use guest_code::program::Instruction;
 
-/// The step of a visible statement; `None` for an instruction that a thread does by itself.
+/// What a running thread's step at this instruction does; `None` where the instruction is local.
 pub fn action_of(instruction: &Instruction) -> Option<Action>
     ensures { result ≡ action_of instruction.now }
 {
@@ -44,7 +44,8 @@ pub fn action_of(instruction: &Instruction) -> Option<Action>
     }
 }
 
-/// The step of a woken thread at its `wait`, whose mutex is taken again; `None` elsewhere.
+/// What the step of a woken thread at its `wait` does: it takes the mutex again. `None` for any
+/// other instruction.
 pub fn retake_of(instruction: &Instruction) -> Option<Action>
     ensures { result ≡ retake_of instruction.now }
 {
@@ -54,7 +55,8 @@ pub fn retake_of(instruction: &Instruction) -> Option<Action>
     }
 }
 
-/// The next step of a thread of this status at this instruction; `None` where it has none.
+/// What the next step of a thread with this status, at this instruction, does; `None` where the
+/// thread has no next step.
 pub fn action_at(status: Status, instruction: &Instruction) -> Option<Action>
     ensures { result ≡ action_at status (Some instruction.now) }
 {
@@ -65,7 +67,7 @@ pub fn action_at(status: Status, instruction: &Instruction) -> Option<Action>
     }
 }
 
-/// Whether a thread owns a mutex that has this owner; one without an owner is free.
+/// Whether a thread owns a mutex whose owner is `owner`; that of a free mutex is `None`.
 pub fn owns(thread: u8, owner: Option<u8>) -> bool
     ensures { result ≡ owns thread owner }
 {

@@ -2,8 +2,8 @@
 //!
 //! `State::start` is where all begin: each thread has run its own instructions up to its first
 //! visible statement. `State::enabled` says who may take a step, `State::step` takes one,
-//! `State::undo` takes it back, and `State::kind` says how it ended where nobody may step. What
-//! schedules there are, lists of such steps, is for the crate `schedules`.
+//! `State::undo` takes it back, and `State::kind` says how it ended where nobody may step. Lists of
+//! such steps, schedules, are for the crate `schedules`.
 //!
 //! The contracts speak of a `State` as a snapshot: the lists of the variables' values, the owners
 //! of the mutexes, the queues of the conditions, the counts of the semaphores, and the threads.
@@ -12,8 +12,7 @@
 //!
 //! - a step changes what the definition of a step changes, and nothing else; it needs no memory
 //!   and can't fail;
-//! - a thread is in the mask of the enabled ones where it is enabled by definition, and a number
-//!   that no thread has never is;
+//! - the mask of the enabled threads has exactly those that are enabled by definition;
 //! - a kind and an end view come exactly where nobody is enabled;
 //! - each state that a step leads to is again a state of the program: its places are in the code,
 //!   its counts within the limit, and in each queue threads that wait, each once.
@@ -23,10 +22,10 @@
 #![tactic(auto)]
 
 mod action;
+mod initial;
 pub mod laws;
 mod local;
 pub mod mask;
-mod opening;
 pub mod queue;
 mod signals;
 pub mod state;
@@ -35,5 +34,5 @@ pub mod view;
 
 pub use crate::action::{action_at, owns};
 pub use crate::local::{
-    Landing, Turn, access, expression_value, next_local, operand_value, run_local,
+    Landing, Turn, access, expression_value, operand_value, run_if_local, run_local,
 };

@@ -1,4 +1,4 @@
-//! What a thread does by itself, over the values of its locals.
+//! Local runs, and what instructions read and write of a thread's locals.
 
 ghost use Rattle.std.specs.Prelude.{◌≡◌, ◌<◌, ◌≤◌, ◌+◌, length, drop, All, IsTrue};
 ghost use Rattle.guest_code.specs.Program.{Program, IsValidCode, IsValueBelow, IsExpressionBelow, LocalsBelow};
@@ -9,32 +9,35 @@ use crate::state::{Status, Stop, Thread, VariableAction};
 use guest_code::program::{Expression, Instruction, Value};
 use guest_syntax::tree::Op;
 
-/// What comes of the instruction that a thread is at, done as far as the thread can by itself.
+/// What came of the instruction that a thread is at: a local one was run, a visible one wasn't.
 #[derive(Clone, Copy, Debug, PartialEq, Eq)]
 pub enum Turn {
-    /// The instruction is done, and that of this number follows, or the end at the code's length.
+    /// The instruction is local and was run. The next one has this number, or this is the code's
+    /// length, and the end follows.
     Runs(usize),
     /// The instruction is an assertion, which fails.
     Fails,
     /// The instruction is a `lock` or an `acquire`, whose step may have to wait.
     Takes,
-    /// The instruction is another visible statement, whose step is possible at once.
+    /// The instruction is another visible one: a running thread can take its step at once.
     Visible,
     /// There is no instruction: the thread is at the end of its code.
     Ends,
 }
 
-/// Where a thread is after its local run, and whether it goes on.
+/// Where a thread is after its local run, and its status.
 #[derive(Clone, Copy, Debug)]
 pub struct Landing {
     /// The number of the instruction; the length of the code where the thread ended.
     pub pc: usize,
     pub status: Status,
-    /// Whether the next step is known to be possible, to take no mutex and acquire no semaphore.
+    /// True only where the next step is possible, takes no mutex and acquires no semaphore; false
+    /// also where that isn't known.
     pub free: bool,
 }
 
-/// The value of an operand: that of its local, where the locals have these values, or a literal.
+/// The value of an operand, a local of a thread or a literal, where the thread's locals have the
+/// values `locals`.
 pub fn operand_value(locals: &[i64], value: Value) -> i64
     requires { IsValueBelow (length locals.now) value }
     ensures { result ≡ value_of_operand locals.now value }
@@ -45,15 +48,17 @@ pub fn operand_value(locals: &[i64], value: Value) -> i64
     }
 }
 
-// Whether the value `variable` of a variable is the one that a `cas` expects.
-fn is_expected(locals: &[i64], expected: Value, variable: i64) -> bool
+// Whether `variable`, the value of a variable, equals the operand that a `cas` expects, where the
+// thread's locals have the values `locals`.
+fn equals_expected(locals: &[i64], expected: Value, variable: i64) -> bool
     requires { IsValueBelow (length locals.now) expected }
     ensures { result ≡ is_expected locals.now expected variable }
 {
     variable == operand_value(locals, expected)
 }
 
-/// Does a thread's action on a variable, whose value is in the cell. Sums wrap.
+/// Does a thread's action on a variable. `cell` has the variable's value, `locals` those of the
+/// thread's locals. The sum of an `add` wraps at 64 bits.
 #[inline(always)]
 pub fn access(cell: &mut i64, locals: &mut [i64], action: VariableAction)
     requires { IsAccessBelow (length locals.old) action }
@@ -70,7 +75,7 @@ pub fn access(cell: &mut i64, locals: &mut [i64], action: VariableAction)
             locals[local] = old;
         }
         VariableAction::Cas(local, expected, new) => {
-            let hit = is_expected(locals, expected, *cell);
+            let hit = equals_expected(locals, expected, *cell);
             if hit {
                 *cell = operand_value(locals, new);
             }
@@ -79,7 +84,8 @@ pub fn access(cell: &mut i64, locals: &mut [i64], action: VariableAction)
     }
 }
 
-/// What an operator makes of two values. Sums, differences and products wrap.
+/// What an operator makes of two values. Sums, differences and products wrap at 64 bits, and a
+/// comparison gives 1 or 0.
 pub fn operation_value(op: Op, a: i64, b: i64) -> i64
     ensures { result ≡ of_both op a b }
 {
@@ -96,7 +102,7 @@ pub fn operation_value(op: Op, a: i64, b: i64) -> i64
     }
 }
 
-/// The value of an expression, where the locals have these values.
+/// The value of an expression, where the thread's locals have the values `locals`.
 #[inline(always)]
 pub fn expression_value(locals: &[i64], expression: &Expression) -> i64
     requires { IsExpressionBelow (length locals.now) expression.now }
@@ -110,15 +116,16 @@ pub fn expression_value(locals: &[i64], expression: &Expression) -> i64
     }
 }
 
-// Whether an expression is 0, where the locals have these values.
-fn is_zero_at(locals: &[i64], expression: &Expression) -> bool
+// Whether an expression is 0, where the thread's locals have the values `locals`.
+fn is_zero(locals: &[i64], expression: &Expression) -> bool
     requires { IsExpressionBelow (length locals.now) expression.now }
     ensures { result ≡ is_zero (value_of_expression locals.now expression.now) }
 {
     expression_value(locals, expression) == 0
 }
 
-// The number of the instruction after that of number `at` and `skip` more, or the code's length.
+// The number of the instruction that comes next once the one of number `at` is done and `skip` more
+// are passed over; the code's length where fewer are left.
 fn pc_after_skip(code: &[Instruction], at: usize, skip: usize) -> usize
     requires { at < length code.now }
     ensures { result ≡ passed at skip (drop (at + 1) code.now) }
@@ -127,10 +134,10 @@ fn pc_after_skip(code: &[Instruction], at: usize, skip: usize) -> usize
     next + skip.min(code.len() - next)
 }
 
-/// Does the instruction of number `at`, as far as a thread with these locals does it by itself, and
-/// says what comes of that.
+/// Runs the instruction of number `at` if it is a local one, on the values `locals` of the thread's
+/// locals, and answers what came of it. A visible one isn't run; at the code's end there is none.
 #[inline(always)]
-pub fn next_local(code: &[Instruction], locals: &mut [i64], at: usize) -> Turn
+pub fn run_if_local(code: &[Instruction], locals: &mut [i64], at: usize) -> Turn
     requires { All (LocalsBelow (length locals.old)) code.now }
     ensures turn { result ≡ turn_of at locals.old (drop at code.now) }
     ensures locals { locals.new ≡ locals_after locals.old (drop at code.now) }
@@ -145,13 +152,13 @@ pub fn next_local(code: &[Instruction], locals: &mut [i64], at: usize) -> Turn
             Turn::Runs(at + 1)
         }
         Instruction::Assert(e) => {
-            if is_zero_at(locals, e) {
+            if is_zero(locals, e) {
                 return Turn::Fails;
             }
             Turn::Runs(at + 1)
         }
         Instruction::SkipIfZero(e, n) => {
-            let skip = if is_zero_at(locals, e) { *n } else { 0 };
+            let skip = if is_zero(locals, e) { *n } else { 0 };
             Turn::Runs(pc_after_skip(code, at, skip))
         }
         Instruction::Skip(n) => Turn::Runs(pc_after_skip(code, at, *n)),
@@ -160,8 +167,9 @@ pub fn next_local(code: &[Instruction], locals: &mut [i64], at: usize) -> Turn
     }
 }
 
-/// Runs a thread's own instructions from number `from` on, up to a visible statement, the end or a
-/// failed assertion. At a visible statement the thread keeps its status.
+/// Takes a thread's local run: runs local instructions from number `from` on, up to a visible one,
+/// the end or a failed assertion, and answers where the thread is then, and its status, which at a
+/// visible instruction is `status`.
 #[inline(always)]
 pub fn run_local(code: &[Instruction], locals: &mut [i64], from: usize, status: Status) -> Landing
     requires below { All (LocalsBelow (length locals.old)) code.now }
@@ -173,7 +181,7 @@ pub fn run_local(code: &[Instruction], locals: &mut [i64], from: usize, status: 
 {
     let mut at = from;
     loop {
-        match next_local(code, locals, at) {
+        match run_if_local(code, locals, at) {
             Turn::Runs(next) => at = next,
             Turn::Fails => {
                 return Landing {
@@ -201,8 +209,9 @@ pub fn run_local(code: &[Instruction], locals: &mut [i64], from: usize, status: 
     }
 }
 
-/// Runs a thread's own instructions, up to a visible statement, the end or a failed assertion.
-pub fn run_on(code: &[Instruction], thread: &mut Thread)
+/// Takes a thread's local run: runs local instructions from where the thread is, up to a visible
+/// one, the end or a failed assertion, and sets its place and status.
+pub fn take_local_run(code: &[Instruction], thread: &mut Thread)
     requires fine { (p : Program) × IsValidCode p code.now }
     requires pc { thread.old.pc ≤ length code.now }
     ensures { thread.new ≡ run_from code.now thread.old }
@@ -212,7 +221,8 @@ pub fn run_on(code: &[Instruction], thread: &mut Thread)
     thread.status = at.status;
 }
 
-/// Moves a thread past the visible statement that it is at, and runs its own instructions on.
+/// Moves a thread past the visible instruction that it is at, sets it running, and takes its local
+/// run from there.
 pub fn resume(code: &[Instruction], thread: &mut Thread)
     requires fine { (p : Program) × IsValidCode p code.now }
     requires pc { thread.old.pc < length code.now }
@@ -220,5 +230,5 @@ pub fn resume(code: &[Instruction], thread: &mut Thread)
 {
     thread.pc += 1;
     thread.status = Status::Running;
-    run_on(code, thread);
+    take_local_run(code, thread);
 }

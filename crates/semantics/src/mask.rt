@@ -12,8 +12,8 @@ pub struct Mask {
 }
 
 impl Mask {
-    /// Whether a thread is in the set.
-    pub fn contains(self, thread: u8) -> bool
+    /// Whether a thread is in the set; false for a number of `THREADS` or more.
+    pub fn has(self, thread: u8) -> bool
         ensures { result ≡ has self thread }
     {
         (thread as usize) < THREADS && (self.bits >> thread) & 1 == 1
@@ -26,7 +26,7 @@ impl Mask {
         Mask { bits: 0 }
     }
 
-    /// This set with the thread, where `on` is true, else without the thread.
+    /// The set with the thread added where `on` is true, else with the thread taken out.
     pub fn with(self, thread: u8, on: bool) -> Mask
         requires { thread < THREADS }
         ensures same { has result thread ≡ on }
@@ -61,7 +61,7 @@ impl Mask {
         }
     }
 
-    /// The least member that is `least` or more, if there is one.
+    /// The member with the least number that is `least` or more; `None` where there is none.
     pub fn first_from(self, least: u8) -> Option<u8>
         ensures list { MatchOption result (members_from self least ≡ [])
             (λ t. members_from self least ≡ t ∷ members_from self (t + 1)) }

@@ -6,8 +6,7 @@ use guest_code::limits::THREADS;
 use std::alloc::AllocError;
 use std::marker::Model;
 
-/// Threads that wait, the one that waits longest first. A queue has room for every thread, so that
-/// nothing is allocated.
+/// Threads that wait, the longest waiting first. Has room for every thread: nothing is allocated.
 #[derive(Drop)]
 pub struct Queue {
     threads: [u8; THREADS],
@@ -30,6 +29,7 @@ impl Clone for Queue {
 
     ghost is_clone = { λ q copy. copy ≡ q };
 
+    /// A copy, as [`Queue::copy`] makes it: it never fails.
     fn clone(&self) -> Result<Queue, AllocError> {
         Ok(self.copy())
     }
@@ -53,7 +53,7 @@ impl Queue {
         &self.threads[..self.length]
     }
 
-    /// An equal queue.
+    /// A copy of the queue. Nothing is allocated.
     pub fn copy(&self) -> Queue
         ensures { result ≡ self.now }
     {
@@ -72,7 +72,7 @@ impl Queue {
         self.length += 1;
     }
 
-    /// Takes out the thread that waits longest, if one waits.
+    /// Takes out the thread that waits longest, and answers it; `None` where the queue is empty.
     pub fn pop(&mut self) -> Option<u8>
         ensures rest { self.new ≡ drop 1 self.old }
         ensures first { MatchOption result (self.old ≡ []) (λ t. take 1 self.old ≡ t ∷ []) }
@@ -86,7 +86,7 @@ impl Queue {
         Some(first)
     }
 
-    /// Takes out all threads.
+    /// Takes all threads out of the queue.
     pub fn clear(&mut self)
         ensures { self.new ≡ [] }
     {

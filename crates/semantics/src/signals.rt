@@ -7,8 +7,8 @@ ghost use Rattle.semantics.specs.Machine.{threads_to_wake, queue_after, woken, w
 use crate::queue::Queue;
 use crate::state::{ConditionAction, Status, Thread};
 
-// Wakes a thread, where it waits for this condition.
-fn wake_one(condition: u8, thread: &mut Thread)
+// Wakes a thread if it waits for this condition; else leaves it as it is.
+fn wake_if_waiting(condition: u8, thread: &mut Thread)
     ensures { thread.new ≡ woken condition thread.old }
 {
     if thread.status == Status::Waiting(condition) {
@@ -16,36 +16,43 @@ fn wake_one(condition: u8, thread: &mut Thread)
     }
 }
 
-// Wakes the threads of these numbers, where they wait for this condition.
-fn wake(threads: &mut [Thread], condition: u8, threads_to_wake: &[u8])
+// Wakes each thread whose number is in `threads_to_wake`, if it waits for this condition.
+fn wake_each(threads: &mut [Thread], condition: u8, threads_to_wake: &[u8])
     requires { All (λ u. u < length threads.old) threads_to_wake.now }
     ensures { threads.new ≡ wake condition threads_to_wake.now threads.old }
 {
     for u in threads_to_wake {
-        wake_one(condition, &mut threads[*u as usize]);
+        wake_if_waiting(condition, &mut threads[*u as usize]);
     }
 }
 
-/// Takes the threads that a signal or broadcast calls out of the condition's queue, and wakes them.
-pub fn notify(queue: &mut Queue, threads: &mut [Thread], condition: u8, action: ConditionAction)
+/// For a signal takes the first thread out of a condition's queue, for a broadcast all threads, and
+/// wakes those of them that wait for the condition. An empty queue stays empty.
+pub fn signal_or_broadcast(
+    queue: &mut Queue,
+    threads: &mut [Thread],
+    condition: u8,
+    action: ConditionAction,
+)
     requires { All (λ u. u < length threads.old) queue.old }
     ensures queue { queue.new ≡ queue_after action queue.old }
     ensures threads { threads.new ≡ wake condition (threads_to_wake action queue.old) threads.old }
 {
     match action {
         ConditionAction::Broadcast => {
-            wake(threads, condition, queue.threads());
+            wake_each(threads, condition, queue.threads());
             queue.clear();
         }
         ConditionAction::Signal => {
             if let Some(u) = queue.pop() {
-                wake_one(condition, &mut threads[u as usize]);
+                wake_if_waiting(condition, &mut threads[u as usize]);
             }
         }
     }
 }
 
-/// Makes the threads of these numbers wait for this condition again: takes their waking back.
+/// Makes the threads of these numbers wait for this condition again, as before they were woken. The
+/// condition's queue isn't changed.
 pub fn wait_again(threads: &mut [Thread], condition: u8, waiting: &[u8])
     requires { All (λ u. u < length threads.old) waiting.now }
     ensures { threads.new ≡ waiting_again condition waiting.now threads.old }

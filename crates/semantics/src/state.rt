@@ -1,4 +1,4 @@
-//! States of a program, and what is to be seen of them.
+//! States of a program: the initial one, what can be read of a state, and who can take a step.
 
 ghost use Rattle.std.specs.Prelude.{◌≡◌, ◌<◌, Some, length, slice_get, IfOk, IfSome};
 ghost use Rattle.std.specs.List.{list_any, list_all};
@@ -12,9 +12,9 @@ pub(crate) mod objects;
 mod steps;
 
 use crate::action::action_at;
+use crate::initial::{initial_counts, initial_threads, initial_values};
 use crate::local::operand_value;
 use crate::mask::Mask;
-use crate::opening::{opening_counts, opening_threads, opening_values};
 use crate::queue::Queue;
 use crate::view::{EndView, Kind};
 use guest_code::limits::LOCALS;
@@ -33,7 +33,7 @@ pub enum Stop {
     SemFull,
 }
 
-/// Whether a thread goes on.
+/// Whether a thread runs, waits, has to take its mutex again, ended or stopped.
 #[derive(Clone, Copy, Debug, PartialEq, Eq)]
 pub enum Status {
     /// The thread is at a visible statement.
@@ -49,7 +49,7 @@ pub enum Status {
 }
 
 impl Status {
-    /// Why the thread stopped, if it did.
+    /// Why a thread of this status stopped; `None` for a status other than `Stopped`.
     pub fn stop(self) -> Option<Stop>
         ensures { result ≡ stop_of self }
     {
@@ -60,7 +60,7 @@ impl Status {
     }
 }
 
-/// Where a thread is, and its locals.
+/// Where in its code a thread is, its locals, and its status.
 #[derive(Clone, Copy, Debug)]
 pub struct Thread {
     /// The number of the instruction that the thread is at; where it ended, the length of its code.
@@ -149,7 +149,9 @@ impl Model for State {
 }
 
 impl State {
-    /// The opening state of a program: each thread has run up to its first visible statement.
+    /// The initial state of a program: values and counts as declared, mutexes free, queues empty,
+    /// and each thread after its first local run, up to a visible statement, its end or a failed
+    /// assertion.
     ///
     /// # Errors
     ///
@@ -159,15 +161,15 @@ impl State {
         ensures of { IfOk result (λ s. IsOf program.now s) }
     {
         Ok(State {
-            variables: opening_values(alloc, program)?,
+            variables: initial_values(alloc, program)?,
             owners: vec![in alloc; None; program.mutexes() as usize]?,
             queues: vec![in alloc; Queue::new(); program.conditions() as usize]?,
-            counts: opening_counts(alloc, program)?,
-            threads: opening_threads(alloc, program)?,
+            counts: initial_counts(alloc, program)?,
+            threads: initial_threads(alloc, program)?,
         })
     }
 
-    /// An equal state.
+    /// A copy of the state.
     ///
     /// # Errors
     ///
@@ -184,14 +186,14 @@ impl State {
         })
     }
 
-    /// The values of the variables.
+    /// The values of the variables, in the order of the variables' numbers.
     pub fn variables(&self) -> &[i64]
         ensures { result.now ≡ self.now.vars }
     {
         self.variables.as_slice()
     }
 
-    /// The thread that owns a mutex; `None` where it is free.
+    /// The thread that owns a mutex; `None` where the mutex is free.
     pub fn owner(&self, mutex: usize) -> Option<u8>
         requires { mutex < length self.now.owners }
         ensures { result ≡ owner_of self.now mutex }
@@ -207,8 +209,8 @@ impl State {
         self.queues[condition].threads().len()
     }
 
-    /// The thread at a place of a condition's queue, counted from 0: the one that waits longest is
-    /// first. `None` past the last one.
+    /// The thread at the index `place` of a condition's queue, in which the thread that waits
+    /// longest has index 0; `None` where the queue ends before that index.
     pub fn queued(&self, condition: usize, place: usize) -> Option<u8>
         requires { condition < length self.now.queues }
         ensures { result ≡ slice_get (queue_of self.now condition) place }
@@ -224,7 +226,7 @@ impl State {
         self.counts[semaphore]
     }
 
-    /// The number of the instruction that a thread has come to; the length of its code at the end.
+    /// The number of the instruction that a thread is at; where it ended, the length of its code.
     pub fn pc(&self, thread: u8) -> usize
         requires { thread < length self.now.threads }
         ensures { result ≡ (thread_at self.now thread).pc }
@@ -240,7 +242,7 @@ impl State {
         &self.threads[thread as usize].locals
     }
 
-    /// Whether a thread goes on.
+    /// Whether a thread runs, waits, has to take its mutex again, ended or stopped.
     pub fn status(&self, thread: u8) -> Status
         requires { thread < length self.now.threads }
         ensures { result ≡ (thread_at self.now thread).status }
@@ -248,7 +250,7 @@ impl State {
         self.threads[thread as usize].status
     }
 
-    /// The value of an operand by the locals of a thread: what its store would write.
+    /// The value of the operand `value` in a thread: that of its local, or the literal itself.
     pub fn value_of(&self, thread: u8, value: Value) -> i64
         requires thread { thread < length self.now.threads }
         requires fine { IsValidValue value }
@@ -257,8 +259,9 @@ impl State {
         operand_value(self.locals(thread), value)
     }
 
-    /// What a thread is about to do; `None` where it waits or is over.
-    pub fn next(&self, program: &Program, thread: u8) -> Option<Action>
+    /// What the next step of a thread does, whether or not the thread is enabled; `None` where the
+    /// thread waits for a condition, has ended or has stopped.
+    pub fn next_action(&self, program: &Program, thread: u8) -> Option<Action>
         requires of { IsOf program.now self.now }
         requires thread { thread < length program.now.threads }
         ensures value { result ≡ next_of program.now self.now thread }
@@ -272,20 +275,21 @@ impl State {
         }
     }
 
-    /// Whether a thread can take a step.
+    /// Whether a thread has a next step, and needn't wait for a mutex or a semaphore to take it.
     pub fn is_enabled(&self, program: &Program, thread: u8) -> bool
         requires of { IsOf program.now self.now }
         requires thread { thread < length program.now.threads }
         ensures { result ≡ is_enabled program.now self.now thread }
     {
-        match self.next(program, thread) {
-            Some(action) => self.allows(action),
+        match self.next_action(program, thread) {
+            Some(action) => self.objects_allow(action),
             None => false,
         }
     }
 
-    // Whether the objects allow a step with this action: its mutex is free, its count above 0.
-    fn allows(&self, action: Action) -> bool
+    // Whether the objects allow a step with this action: the mutex that it takes is free, or the
+    // semaphore that it acquires has a count above 0. Any other action is always allowed.
+    fn objects_allow(&self, action: Action) -> bool
         requires { (p : Program) × IsOf p self.now × IsValidAction p action }
         ensures { result ≡ can_do self.now (Some action) }
     {
@@ -300,7 +304,7 @@ impl State {
         }
     }
 
-    /// Which threads can take a step.
+    /// The set of the enabled threads, those that can take a step in this state.
     pub fn enabled(&self, program: &Program) -> Mask
         requires { IsOf program.now self.now }
         ensures { HasEnabled result program.now self.now }
@@ -312,7 +316,7 @@ impl State {
         mask
     }
 
-    // Whether no thread is enabled.
+    // Whether the state is terminal: no thread is enabled in it.
     fn is_terminal(&self, program: &Program) -> bool
         requires { IsOf program.now self.now }
         ensures { result ≡ is_terminal program.now self.now }
@@ -325,7 +329,8 @@ impl State {
         true
     }
 
-    /// How the schedule to this state ends, where it is complete.
+    /// The kind of end that this state is: done where all threads ended, else failed where one
+    /// stopped, else stuck. `None` where it is no end, since a thread can still take a step.
     pub fn kind(&self, program: &Program) -> Option<Kind>
         requires { IsOf program.now self.now }
         ensures { result ≡ kind_of program.now self.now }
@@ -337,7 +342,8 @@ impl State {
         }
     }
 
-    /// The end view, where the schedule to this state is complete.
+    /// The end view, the kind and the variables' values, where this state is an end; `None` where a
+    /// thread can still take a step.
     ///
     /// # Errors
     ///
@@ -356,8 +362,8 @@ impl State {
     }
 }
 
-// Whether some thread stopped.
-fn some_stopped(threads: &[Thread]) -> bool
+// Whether at least one of the threads stopped.
+fn any_stopped(threads: &[Thread]) -> bool
     ensures { result ≡ list_any (λ th. is_stopped th.status) threads.now }
 {
     threads
@@ -365,27 +371,28 @@ fn some_stopped(threads: &[Thread]) -> bool
         .any(|th| matches!(th.status, Status::Stopped(_)))
 }
 
-// Whether a thread ended.
+// Whether a thread has run to the end of its code.
 fn has_ended(thread: &Thread) -> bool
     ensures { result ≡ is_ended thread.now.status }
 {
     matches!(thread.status, Status::Ended)
 }
 
-// Whether all threads ended.
+// Whether all threads have run to the end of their code.
 fn all_ended(threads: &[Thread]) -> bool
     ensures { result ≡ list_all (λ th. is_ended th.status) threads.now }
 {
     threads.iter().all(|th| has_ended(th))
 }
 
-// How a complete schedule ends, by the threads in its last state.
+// How a complete schedule ends, by the threads in its last state: done where all ended, else failed
+// where one stopped, else stuck.
 fn final_kind(threads: &[Thread]) -> Kind
     ensures { result ≡ final_kind threads.now }
 {
     if all_ended(threads) {
         Kind::Done
-    } else if some_stopped(threads) {
+    } else if any_stopped(threads) {
         Kind::Failed
     } else {
         Kind::Stuck

@@ -3,7 +3,8 @@
 use crate::state::Thread;
 use crate::state::objects::Objects;
 
-/// How to take one step back: its thread and the objects that it changed, as before. Of fixed size.
+/// The record of a step, by which it can be taken back: its thread and the objects that it changed,
+/// as they were before it. Of fixed size.
 #[derive(Drop)]
 pub struct Undo {
     pub(crate) thread: u8,

@@ -4,7 +4,7 @@ ghost use Rattle.std.specs.Prelude.{◌≡◌, None};
 ghost use Rattle.suite.specs.Suites.{OutcomeMeans};
 ghost use Rattle.suite.specs.Statuses.{bad_status, fewest_status, one_unless, status_of, unfound_status};
 
-use crate::expectation::{Expectation, ExpectedVerdict, expectation_lookalike};
+use crate::expectation::{Expectation, ExpectedVerdict, expectation_lookalike_line};
 use crate::searches::{SearchResult, search};
 use answering::Limits;
 use runner::{ExploreError, Gate, Verdict};
@@ -21,8 +21,8 @@ pub enum Outcome {
     Searched(SearchResult),
     /// The text of the file is refused, or memory ran out.
     Refused(ExploreError),
-    /// It is unclear what is expected: the line of this number, counted from 1, states no verdict,
-    /// or a second one. Nothing was searched.
+    /// It is unclear what is expected: the line of this number, counted from 1, is an expectation
+    /// that states no verdict, or isn't the first. Nothing was searched.
     Unclear(u64),
     /// The file couldn't be read, for this cause.
     Unread(String),
@@ -42,15 +42,16 @@ pub struct Entry {
 }
 
 impl Entry {
-    /// The entry of a file with this text: reads what the text expects, and searches the guest in
-    /// it, within these limits. Where it is unclear what is expected nothing is searched.
-    pub fn new<G: Gate, R>(rt: &R, file: String, text: &[u8], limits: Limits, gate: &G) -> Entry
+    /// Searches the guest program that the text of a file spells, within these limits and until the
+    /// gate stops it, and answers the file's entry. Where it is unclear what the text expects,
+    /// nothing is searched.
+    pub fn of_text<G: Gate, R>(rt: &R, file: String, text: &[u8], limits: Limits, gate: &G) -> Entry
     where
         R: Threads + Wait + Sync + Alloc<A = Global>,
         ensures file { result.file ≡ file }
         ensures outcome { OutcomeMeans (G.stops gate.now) text.now limits result.outcome }
     {
-        let expected = match Expectation::of(text) {
+        let expected = match Expectation::of_text(text) {
             Expectation::Absent => None,
             Expectation::Stated(expected) => Some(expected),
             Expectation::Unclear(line) => return Entry::unsearched(file, Outcome::Unclear(line)),
@@ -62,7 +63,7 @@ impl Entry {
         Entry {
             file,
             expected,
-            lookalike: expectation_lookalike(text),
+            lookalike: expectation_lookalike_line(text),
             outcome,
         }
     }
@@ -80,18 +81,17 @@ impl Entry {
         }
     }
 
-    /// The file's status: 0 where its guest is as expected, or no bad schedule was found and
-    /// nothing was expected; 1 where the guest isn't as expected, or is bad and nothing was
-    /// expected; 2 where the text or its expectation is refused; 3 where the search was cut short
-    /// before it was known whether the guest is as expected; 4 where memory ran out or the file
-    /// couldn't be read.
+    /// The file's status: 0 where its guest is as expected, or is clean and nothing was expected; 1
+    /// where the guest isn't as expected, or is bad and nothing was expected; 2 where the text or
+    /// its expectation is refused; 3 where the search was cut short before it was known whether the
+    /// status is 0 or 1; 4 where memory ran out or the file couldn't be read.
     pub fn status(&self) -> u8
         ensures { result ≡ status_of self.now }
     {
         match &self.outcome {
             Outcome::Searched(searched) => match &searched.found.bad {
-                Some(bad) => bad_status(self.expected, bad, searched.clear),
-                None => unfound_status(self.expected, &searched.found.report.verdict),
+                Some(bad) => status_with_bad(self.expected, bad, searched.clear),
+                None => status_without_bad(self.expected, &searched.found.report.verdict),
             },
             Outcome::Refused(ExploreError::OutOfMemory) | Outcome::Unread(_) => 4,
             Outcome::Refused(_) | Outcome::Unclear(_) => 2,
@@ -100,24 +100,24 @@ impl Entry {
 }
 
 // The status of a file where the bad schedule `bad` was found, and none with fewer preemptions than
-// `clear` is bad: 0 where that is as expected, 1 where it isn't or nothing was expected, 3 where it
-// isn't known.
-fn bad_status(expected: Option<ExpectedVerdict>, bad: &BadSchedule, clear: u64) -> u8
+// `clear` is bad: 0 where `bad` is as expected, 1 where it isn't or nothing was expected, 3 where a
+// number of preemptions was expected, and it isn't known whether that is the fewest.
+fn status_with_bad(expected: Option<ExpectedVerdict>, bad: &BadSchedule, clear: u64) -> u8
     ensures { result ≡ bad_status expected bad.now clear }
 {
     match expected {
         Some(ExpectedVerdict::Bad) => 0,
         Some(ExpectedVerdict::BadAt(preemptions)) => {
-            fewest_status(u64::from(preemptions), u64::from(bad.preemptions), clear)
+            status_by_preemptions(u64::from(preemptions), u64::from(bad.preemptions), clear)
         }
-        Some(ExpectedVerdict::Failed) => expectation_status(bad.kind == Kind::Failed),
-        Some(ExpectedVerdict::Stuck) => expectation_status(bad.kind == Kind::Stuck),
+        Some(ExpectedVerdict::Failed) => status_by_expectation(bad.kind == Kind::Failed),
+        Some(ExpectedVerdict::Stuck) => status_by_expectation(bad.kind == Kind::Stuck),
         Some(ExpectedVerdict::Clean) | None => 1,
     }
 }
 
-// The status of a file by its expectation alone: 0 where that is met, else 1.
-fn expectation_status(is_met: bool) -> u8
+// The status of a file by whether its expectation is met: 0 where it is, else 1.
+fn status_by_expectation(is_met: bool) -> u8
     ensures { result ≡ one_unless is_met }
 {
     if is_met { 0 } else { 1 }
@@ -125,9 +125,9 @@ fn expectation_status(is_met: bool) -> u8
 
 // The status of a file where the fewest preemptions of a bad schedule were expected to be
 // `expected`, a bad schedule with `preemptions` was found, and none with fewer than `clear` is bad:
-// 0 where they are as many as expected, 1 where they can't be, 3 where the search didn't go far
-// enough to know.
-fn fewest_status(expected: u64, preemptions: u64, clear: u64) -> u8
+// 0 where the fewest are as many as expected, 1 where they can't be, 3 where the search didn't go
+// far enough to know.
+fn status_by_preemptions(expected: u64, preemptions: u64, clear: u64) -> u8
     ensures { result ≡ fewest_status expected preemptions clear }
 {
     if preemptions < expected || expected < clear {
@@ -141,7 +141,7 @@ fn fewest_status(expected: u64, preemptions: u64, clear: u64) -> u8
 
 // The status of a file where no bad schedule was found: 3 where the search was cut short, 0 where
 // no bad schedule was expected, else 1.
-fn unfound_status(expected: Option<ExpectedVerdict>, verdict: &Verdict) -> u8
+fn status_without_bad(expected: Option<ExpectedVerdict>, verdict: &Verdict) -> u8
     ensures { result ≡ unfound_status expected verdict.now }
 {
     match (expected, verdict) {

@@ -17,8 +17,8 @@ pub enum ExpectedVerdict {
     Clean,
 }
 
-/// The words after `# expect:` that state a verdict.
 impl fmt::Display for ExpectedVerdict {
+    // The words after `# expect:` that state the verdict.
     fn fmt<W: fmt::Write>(&self, f: &mut fmt::Formatter<W>) -> fmt::Result {
         match self {
             ExpectedVerdict::Bad => write!(f, "bad"),
@@ -37,21 +37,22 @@ pub enum Expectation {
     Absent,
     /// One line, `# expect: WORDS`, states this verdict.
     Stated(ExpectedVerdict),
-    /// The line of this number, counted from 1, begins with `# expect:` and states no verdict, or
-    /// an earlier line states one.
+    /// The line of this number, counted from 1, begins with `# expect:`, and states no verdict or
+    /// comes after a line that begins so.
     Unclear(u64),
 }
 
 impl Expectation {
-    /// Reads what the comments of a text expect. Blanks around the `#`, around the words, and at
-    /// both ends of a line make no difference.
-    pub fn of(text: &[u8]) -> Expectation {
+    /// What a text expects by a line `# expect: WORDS`: unclear where there are two such lines, or
+    /// the words state no verdict. Blanks around the `#`, around the words, and at both ends of the
+    /// line make no difference.
+    pub fn of_text(text: &[u8]) -> Expectation {
         let mut found = Expectation::Absent;
         for (line, number) in text.split(|b| *b == b'\n').zip(1u64..) {
             match (found, expectation_words(line)) {
                 (_, None) => {}
                 (Expectation::Absent, Some(words)) => {
-                    found = expected_verdict(words).map_or(
+                    found = parse_expected_verdict(words).map_or(
                         Expectation::Unclear(number),
                         Expectation::Stated,
                     );
@@ -63,8 +64,8 @@ impl Expectation {
     }
 }
 
-// The verdict that the words of an expectation state, as `bad 2`; `None` where they state none.
-fn expected_verdict(words: &[u8]) -> Option<ExpectedVerdict> {
+// The verdict that words such as `bad 2` state; `None` where they state none.
+fn parse_expected_verdict(words: &[u8]) -> Option<ExpectedVerdict> {
     match words {
         b"bad" => Some(ExpectedVerdict::Bad),
         b"failed" => Some(ExpectedVerdict::Failed),
@@ -77,8 +78,8 @@ fn expected_verdict(words: &[u8]) -> Option<ExpectedVerdict> {
     }
 }
 
-// The number that these bytes spell in decimal; `None` where they aren't digits alone, or the
-// number is too great for a `u32`.
+// The number that these bytes spell in decimal; `None` where they are empty or not digits alone, or
+// the number is too great for a `u32`.
 fn parse_decimal(digits: &[u8]) -> Option<u32> {
     let text = str::from_utf8(digits).ok()?;
     if digits.iter().all(u8::is_ascii_digit) {
@@ -95,10 +96,10 @@ fn expectation_words(line: &[u8]) -> Option<&[u8]> {
     Some(words.trim_ascii())
 }
 
-/// The number of the first line, counted from 1, with a comment that looks like an expectation and
-/// isn't read as one: the comment is misspelt, or there is code before it. `None` where there is
-/// none.
-pub fn expectation_lookalike(text: &[u8]) -> Option<u64> {
+/// The number, counted from 1, of the first line with a comment that looks like an expectation and
+/// isn't read as one: the comment is misspelt, or there is code before it. `None` where no line has
+/// one.
+pub fn expectation_lookalike_line(text: &[u8]) -> Option<u64> {
     let mut lines = text.split(|b| *b == b'\n').zip(1u64..);
     let (_, number) = lines.find(|(line, _)| expectation_words(line).is_none()
         && is_lookalike(line))?;
@@ -106,7 +107,8 @@ pub fn expectation_lookalike(text: &[u8]) -> Option<u64> {
 }
 
 // Whether the comment of a line begins with a word like `expect`, of any case and with any ending,
-// and after it comes a colon, an equals sign, or words that state a verdict.
+// and after it comes a colon, an equals sign, or words that state a verdict. A line that is read as
+// an expectation is a lookalike by this, too.
 fn is_lookalike(line: &[u8]) -> bool {
     let Some(sign) = line.iter().position(|b| *b == b'#') else {
         return false;
@@ -121,7 +123,7 @@ fn is_lookalike(line: &[u8]) -> bool {
     let (word, ending) = comment.split_at(EXPECT.len());
     let rest = trim_start_matches(ending, |b| b.is_ascii_alphabetic()).trim_ascii();
     let is_marked = rest.starts_with(b":") || rest.starts_with(b"=");
-    word.eq_ignore_ascii_case(EXPECT) && (is_marked || expected_verdict(rest).is_some())
+    word.eq_ignore_ascii_case(EXPECT) && (is_marked || parse_expected_verdict(rest).is_some())
 }
 
 // How a word like `expect` begins, in lower case.

@@ -52,8 +52,8 @@ impl Table {
     ///
     /// `AllocError` where memory runs out.
     pub fn head(&self) -> Result<Vec<u8>, AllocError> {
-        let found = ["verdict", "bound", "preemptions", "schedule", "tried"];
-        self.line("file", found, "note")
+        let heads = ["verdict", "bound", "preemptions", "schedule", "tried"];
+        self.line("file", heads, "note")
     }
 
     /// The line of a file, in ASCII: its verdict, the bound of the search, the preemptions of the
@@ -94,21 +94,22 @@ impl Table {
         };
         let schedule = str::from_utf8(schedule.as_slice()).unwrap_or("");
         let tried = report.summary.tried().to_string(alloc)?;
-        let found = [
+        let cells = [
             verdict_word(&searched.found),
             bound.as_str(),
             preemptions.as_str(),
             schedule,
             tried.as_str(),
         ];
-        self.line(file, found, note)
+        self.line(file, cells, note)
     }
 
-    // A line of the table: its cells, each at the start of its column or two blanks after the one
-    // before, with no blank after the last, which may be empty, and a line feed.
-    fn line(&self, file: &str, found: [&str; 5], note: &str) -> Result<Vec<u8>, AllocError> {
+    // A line of the table, with its line feed: a cell for each column, as wide as the column, or
+    // wider, which moves those after it. `cells` are those between the file and the note, which may
+    // be empty; the line doesn't end in a blank.
+    fn line(&self, file: &str, cells: [&str; 5], note: &str) -> Result<Vec<u8>, AllocError> {
         let file_width = self.file_width;
-        let [verdict, bound, preemptions, schedule, tried] = found;
+        let [verdict, bound, preemptions, schedule, tried] = cells;
         let line = format!(in self.alloc;
             "{file:<file_width$}  {verdict:<10}  {bound:<5}  {preemptions:<11}  {schedule:<12}  {tried:<9}  {note}"
         )?;
@@ -147,9 +148,10 @@ fn escaped(alloc: Global, text: &str) -> Result<String, AllocError> {
     Ok(printed)
 }
 
-// How a note names a line of a file: `line 12`, or `worker.inc:12` where a preprocessor's mark says
-// that it came from there.
-fn line_text(alloc: Global, marks: &Marks, line: u64) -> Result<String, AllocError> {
+// How a note names the line of a file with this number: `line 12`, or `worker.inc:12` where a
+// preprocessor's mark says that it came from there. Marks count lines up to `u32::MAX`, which also
+// stands for greater numbers.
+fn line_name(alloc: Global, marks: &Marks, line: u64) -> Result<String, AllocError> {
     let line = u32::try_from(line).unwrap_or(u32::MAX);
     match marks.origin(line) {
         Some(_) => {
@@ -164,17 +166,17 @@ fn line_text(alloc: Global, marks: &Marks, line: u64) -> Result<String, AllocErr
 // marks tell it.
 fn refusal_text(alloc: Global, marks: &Marks, error: ExploreError) -> Result<String, AllocError> {
     let mut told = format!(in alloc; "{error}")?;
-    if let Some(at) = place_of(error)
+    if let Some(at) = refusal_place(error)
         && marks.origin(at.line).is_some()
     {
-        let line = line_text(alloc, marks, u64::from(at.line))?;
+        let line = line_name(alloc, marks, u64::from(at.line))?;
         write!(told, " ({line}:{})", at.col)?;
     }
     Ok(told)
 }
 
 // The place in the text that a refusal names; `None` where it names none.
-fn place_of(error: ExploreError) -> Option<Pos> {
+fn refusal_place(error: ExploreError) -> Option<Pos> {
     match error {
         ExploreError::Syntax(
             SyntaxError::NotAscii(at)
@@ -204,14 +206,14 @@ fn note_of(alloc: Global, entry: &Entry, marks: &Marks) -> Result<String, AllocE
         Outcome::Searched(searched) => put_search_remarks(&mut note, entry, searched)?,
         Outcome::Refused(error) => put_remark(&mut note, refusal_text(alloc, marks, *error)?)?,
         Outcome::Unclear(line) => {
-            let line = line_text(alloc, marks, *line)?;
+            let line = line_name(alloc, marks, *line)?;
             let wanted = "one `# expect:` is wanted, with bad, bad N, failed, stuck or clean";
             put_remark(&mut note, format_args!("{line}: {wanted}"))?;
         }
         Outcome::Unread(cause) => put_remark(&mut note, escaped(alloc, cause.as_str())?)?,
     }
     if let Some(line) = entry.lookalike {
-        let line = line_text(alloc, marks, line)?;
+        let line = line_name(alloc, marks, line)?;
         put_remark(
             &mut note,
             format_args!("{line} looks like `# expect:` and isn't"),
@@ -226,8 +228,9 @@ fn put_remark<D: fmt::Display + Drop>(note: &mut String, remark: D) -> Result<()
     write!(note, "{sign}{remark}")
 }
 
-// Puts the remarks on a file that was searched at the end of its note: whether what it expects was
-// found, and what the search leaves open, where it leaves something open.
+// Puts the remarks on a file that was searched at the end of its note: that its bad schedule was
+// expected, or which expectation wasn't seen to be met; and what the search leaves open, if
+// anything. If it was cut short and found no bad schedule, nothing is said of an expectation.
 fn put_search_remarks(
     note: &mut String,
     entry: &Entry,
@@ -249,10 +252,10 @@ fn put_search_remarks(
     put_remark(note, rest)
 }
 
-/// The JSON of a file, an object and a line feed: `file`, `expect` (the words, or null), `status`
-/// and `note`, and then the members of its report, or `fault`, which says why there is none. Where
-/// the note names a line of the file, and a preprocessor's `marks` say where that line came from,
-/// it names that place.
+/// The JSON of a file, an object and a line feed: `file`, `expect` (what is expected, or null),
+/// `status` and `note`, and then the members of its report, or `fault`, which says why it has none.
+/// Where the note names a line of the file, and a preprocessor's `marks` say where that line came
+/// from, it names that place.
 ///
 /// # Errors
 ///

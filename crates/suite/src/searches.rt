@@ -19,11 +19,12 @@ pub struct SearchResult {
     pub clear: u64,
 }
 
-/// Searches the guest program of a text, once or twice, and answers the search to report. The first
-/// search has no bound. Where it comes to its end and finds no bad schedule, or one without a
-/// preemption, it is reported. Else a second search is made: up to as many preemptions as the bad
-/// schedule of the first has, so that one with fewest is reported, or up to the limits' bound where
-/// the first found none. The second is reported, unless only the first found a bad schedule.
+/// Searches the guest program of a text, once or twice, and answers the search to report. Each is
+/// cut short at the number of schedules in `limits`, or where the gate stops it. The first has no
+/// bound. Where it comes to its end and finds no bad schedule, or one without a preemption, it is
+/// reported. Else a second search is made: up to as many preemptions as the bad schedule of the
+/// first has, so that one with fewest is reported, or up to the limits' bound where the first found
+/// none. The second is reported, unless only the first found a bad schedule.
 ///
 /// # Errors
 ///

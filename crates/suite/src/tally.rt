@@ -55,13 +55,13 @@ impl Tally {
     }
 }
 
-/// How many files there are, and how many of them have each status, in words.
 impl fmt::Display for Tally {
+    // How many files there are, and of each status that some of them have how many do, in words.
     fn fmt<W: fmt::Write>(&self, f: &mut fmt::Formatter<W>) -> fmt::Result {
         let files = self.statuses.len();
         write!(f, "{files} {}", if files == 1 { "file" } else { "files" })?;
         let mut begun = false;
-        for (status, words) in WORDS {
+        for (status, words) in STATUS_WORDS {
             let count = self.count(status);
             if count > 0 {
                 write!(f, "{}{count} {words}", if begun { ", " } else { ": " })?;
@@ -73,7 +73,7 @@ impl fmt::Display for Tally {
 }
 
 // Each status and what it says of a file, in the order in which a tally prints them.
-const WORDS: [(u8, &str); 5] = [
+const STATUS_WORDS: [(u8, &str); 5] = [
     (0, "as expected"),
     (1, "not as expected"),
     (3, "cut short"),

@@ -16,13 +16,13 @@ pub fn sums_join()
         sum_of p (K ++ L) ≡ join (sum_of p K) (sum_of p L) }
 {}
 
-/// The sum of no schedule is nothing.
+/// The sum of the empty list of schedules is `nothing`, the summary of no schedule.
 pub fn sum_of_none()
     ensures { (p : Program) → sum_of p [] ≡ nothing }
 {}
 
-/// The sum of one schedule counts it once, and once more as failed or as stuck where it ended so;
-/// it is the first bad one then. Its view is the only one.
+/// The sum of one schedule counts it once as tried and, where it failed or got stuck, as failed or
+/// stuck; then it is the first bad one. Its end view is the only one.
 pub fn sum_of_one_schedule()
     ensures done { (p : Program) (w : List ℕ) → end_kind p w ≡ Done →
         sum_of p (w ∷ []) ≡ record nothing { tried = 1; ends = end_of p w ∷ [] } }
@@ -32,8 +32,9 @@ pub fn sum_of_one_schedule()
         record nothing { tried = 1; stuck = 1; first_bad = Some w; ends = end_of p w ∷ [] } }
 {}
 
-/// A sum counts its schedules, those that failed and those that got stuck.
-pub fn sums_count()
+/// The sum of a list counts its schedules, those of them that failed and those that got stuck, each
+/// count up to the greatest `u64`.
+pub fn sums_count_their_schedules()
     ensures tried { (p : Program) (L : List (List ℕ)) → (sum_of p L).tried ≡ cut (length L) }
     ensures failed { (p : Program) (L : List (List ℕ)) →
         (sum_of p L).failed ≡ cut (length (filter (λ w. is_failed (end_kind p w)) L)) }
@@ -41,14 +42,14 @@ pub fn sums_count()
         (sum_of p L).stuck ≡ cut (length (filter (λ w. is_stuck (end_kind p w)) L)) }
 {}
 
-/// Counts are exact up to the greatest `u64`, and stop there.
+/// Counts are exact up to the greatest `u64`; greater ones are cut to it.
 pub fn counts_stop_at_the_greatest()
     ensures greatest { greatest_count ≡ 18446744073709551615 }
     ensures exact { (n : ℕ) → n ≤ greatest_count → cut n ≡ n }
     ensures stopped { (n : ℕ) → greatest_count ≤ n → cut n ≡ greatest_count }
 {}
 
-/// The views of a sum are strictly sorted, and are those that its schedules end with.
+/// The end views in a list's sum are strictly sorted, and are those with which its schedules end.
 pub fn views_are_sorted()
     ensures sorted { (p : Program) (L : List (List ℕ)) →
         IsStrictlySortedBy view_cmp (sum_of p L).ends }
@@ -56,7 +57,8 @@ pub fn views_are_sorted()
         Contains (sum_of p L).ends v ↔ Contains (map (end_of p) L) v }
 {}
 
-/// Each sum, beyond a bound or not, is the value that a summary may have.
+/// The sum of a list of schedules is a value that a `Summary` may have, also where `beyond` is set
+/// in it, which says that some schedule, in the list or not, has more preemptions than a bound.
 pub fn sums_are_summaries()
     ensures { (p : Program) (L : List (List ℕ)) (b : Bool) →
         IsSummary (with_beyond (sum_of p L) b) }
@@ -74,12 +76,12 @@ pub fn join_associates()
     ensures { (a b c : SummaryView) → join (join a b) c ≡ join a (join b c) }
 {}
 
-/// A summary joined with nothing stays as it is.
+/// A summary joined with that of no schedule stays as it is.
 pub fn join_with_nothing()
     ensures { (a : SummaryView) → IsSummary a → join a nothing ≡ a }
 {}
 
-/// The counts of a join are the sums of the counts of both summaries, up to the greatest `u64`.
+/// A count of a join is the sum of both summaries' counts, if that is at most the greatest `u64`.
 pub fn joins_add_up()
     ensures tried { (a b : SummaryView) →
         a.tried + b.tried ≤ greatest_count → (join a b).tried ≡ a.tried + b.tried }
@@ -89,8 +91,9 @@ pub fn joins_add_up()
         a.stuck + b.stuck ≤ greatest_count → (join a b).stuck ≡ a.stuck + b.stuck }
 {}
 
-/// The join of two summaries is beyond where one of them is, has the lesser of their first bad
-/// schedules, and the views of both, strictly sorted.
+/// The join of two summaries says `beyond`, that some schedule has more preemptions than a bound,
+/// where one of them does. It has the lesser of their first bad schedules, and the end views of
+/// both, strictly sorted.
 pub fn joins_have_both()
     ensures beyond { (a b : SummaryView) → (join a b).beyond ≡ (a.beyond || b.beyond) }
     ensures first_bad { (a b : SummaryView) →

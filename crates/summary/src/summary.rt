@@ -14,7 +14,7 @@ use std::alloc::{AllocError, Global};
 use std::cmp::Ordering;
 use std::marker::Model;
 
-// For how many end views a summary has room at first: that of a small item has one to three.
+// How many end views a summary has room for at first: that of a small item has one to three.
 const INITIAL_CAPACITY: usize = 3;
 
 /// What is known of a list of complete schedules. Counts stop at the greatest `u64`.
@@ -28,7 +28,7 @@ pub struct Summary {
     ends: Vec<EndView>,
 }
 
-/// How many schedules were counted.
+/// The counts of a summary.
 #[derive(Clone, Copy, Debug, PartialEq, Eq)]
 pub struct Counts {
     /// How many were tried.
@@ -65,8 +65,9 @@ impl Summary {
         }
     }
 
-    /// The summary of these parts, where a summary may have them: the end views are strictly
-    /// sorted, and there is a first bad schedule exactly where one failed or got stuck.
+    /// The summary that has these parts. `None` where a summary may not have them: the end views
+    /// aren't strictly sorted, or there is a first bad schedule though none failed or got stuck, or
+    /// there is none though some did.
     pub fn from_parts(
         counts: Counts,
         beyond: bool,
@@ -91,15 +92,16 @@ impl Summary {
         })
     }
 
-    /// Forgets all schedules, and gives the end views to the memory, to be used again.
+    /// Makes this the summary of no schedule, and gives the end views to `memory`, to be used
+    /// again.
     pub fn clear(&mut self, memory: &mut EndMemory)
         ensures { self.new ≡ nothing }
     {
         self.forget_beyond();
         memory.recycle(&mut self.ends);
-        reset(&mut self.tried);
-        reset(&mut self.failed);
-        reset(&mut self.stuck);
+        reset_count(&mut self.tried);
+        reset_count(&mut self.failed);
+        reset_count(&mut self.stuck);
         self.first_bad = None;
     }
 
@@ -124,14 +126,14 @@ impl Summary {
         self.stuck
     }
 
-    /// Whether some schedule has more preemptions than the bound.
+    /// Whether it was noted that some schedule has more preemptions than the bound.
     pub fn beyond(&self) -> bool
         ensures { result ≡ self.now.beyond }
     {
         self.beyond
     }
 
-    /// The least of the schedules that failed or got stuck, if any.
+    /// The least, in lexicographic order, of the schedules that failed or got stuck, if any.
     pub fn first_bad(&self) -> Option<&[u8]>
         ensures { MatchOption result
             (self.now.first_bad ≡ None) (λ w. self.now.first_bad ≡ Some w.now) }
@@ -142,7 +144,7 @@ impl Summary {
         }
     }
 
-    /// How the schedules ended: the end views, by kind, then by the variables' values, each once.
+    /// The end views of the schedules, sorted by kind, then by the variables' values, each once.
     pub fn ends(&self) -> &[EndView]
         ensures ends { result.now ≡ self.now.ends }
         ensures kept { IsSummary self.now }
@@ -150,7 +152,7 @@ impl Summary {
         self.ends.as_slice()
     }
 
-    /// An equal summary.
+    /// An equal summary, in memory of its own.
     ///
     /// # Errors
     ///
@@ -168,8 +170,8 @@ impl Summary {
         })
     }
 
-    /// This summary and another as one: the counts added, the lesser first bad schedule, the end
-    /// views of both.
+    /// This summary and another as one: the counts added up to the greatest `u64`, the lesser first
+    /// bad schedule, the end views of both; beyond the bound where one of them is.
     ///
     /// # Errors
     ///
@@ -183,15 +185,15 @@ impl Summary {
             failed: self.failed.saturating_add(other.failed),
             stuck: self.stuck.saturating_add(other.stuck),
             beyond: self.beyond || other.beyond,
-            first_bad: lesser_of(alloc, &self.first_bad, &other.first_bad)?,
-            ends: views_of_both(alloc, self.ends.as_slice(), other.ends.as_slice())?,
+            first_bad: copy_lesser(alloc, &self.first_bad, &other.first_bad)?,
+            ends: merged_views(alloc, self.ends.as_slice(), other.ends.as_slice())?,
         })
     }
 
-    /// Joins another summary in, in place: what [`Summary::join`] answers. Nothing is cloned, and
-    /// nothing is allocated where the other has no end view that is new. Hints tell at which index
-    /// an end view was found in earlier joins, and may be wrong. The other summary is left with its
-    /// memory; what its value is then is not said.
+    /// Makes this summary what [`Summary::join`] answers for it and another. No view is copied, and
+    /// no memory is taken where the other has no end view that is new. Hints tell at which index an
+    /// end view was found in earlier joins, and may be wrong. Parts are moved out of the other: it
+    /// stays a summary, but it isn't said of what.
     ///
     /// # Errors
     ///
@@ -201,26 +203,27 @@ impl Summary {
         ensures joined { self.new ≡ (if is_ok result then join self.old other.old else self.old) }
         ensures other { OnErr result (other.new ≡ other.old) }
     {
-        join_views(&mut self.ends, hints, &mut other.ends)?;
-        take_lesser(&mut self.first_bad, other.first_bad.take());
+        merge_views(&mut self.ends, hints, &mut other.ends)?;
+        replace_if_lesser(&mut self.first_bad, other.first_bad.take());
         raise_count(&mut self.tried, other.tried);
         raise_count(&mut self.failed, other.failed);
         raise_count(&mut self.stuck, other.stuck);
         self.beyond = self.beyond || other.beyond;
-        reset(&mut other.failed);
-        reset(&mut other.stuck);
+        reset_count(&mut other.failed);
+        reset_count(&mut other.stuck);
         Ok(())
     }
 
-    /// Forgets that some schedule has more preemptions than the bound, for a bound that is raised.
+    /// Forgets that some schedule has more preemptions than the bound, as when the bound is raised.
     pub fn forget_beyond(&mut self)
         ensures { self.new ≡ with_beyond self.old false }
     {
         self.beyond = false;
     }
 
-    /// Counts one more complete schedule, which ends with this kind and these values. Mostly the
-    /// end view stands where a hint says.
+    /// Adds a complete schedule, which ends with this kind and these values of the variables:
+    /// counts it, and keeps it if it is the first bad one, and its end view if that is new. Tests
+    /// the usual case first: the schedule isn't bad, and its end view stands where a hint says.
     ///
     /// # Errors
     ///
@@ -239,17 +242,18 @@ impl Summary {
             then added self.old schedule.now (end_with kind values.now) else self.old) }
     {
         let hint = memory.hints.hint_for(self.ends.len(), kind, values);
-        if !kind.is_bad() && stands_at(self.ends.as_slice(), hint, kind, values) {
+        if !kind.is_bad() && is_view_at(self.ends.as_slice(), hint, kind, values) {
             raise_count(&mut self.tried, 1);
             return Ok(());
         }
-        self.add_bad_or_new(alloc, memory, schedule, kind, values)
+        self.add_cold(alloc, memory, schedule, kind, values)
     }
 
-    // Counts one more complete schedule, whose end may be bad, and its end view new.
+    // Adds a complete schedule as [`Summary::add`] does, without its test of the usual case. It is
+    // a function of its own, so that `add` is short where it is inlined.
     #[inline(never)]
     #[tactic(auto, unfolding(crate::specs::Summaries::added))]
-    fn add_bad_or_new(
+    fn add_cold(
         &mut self,
         alloc: Global,
         memory: &mut EndMemory,
@@ -260,7 +264,7 @@ impl Summary {
         ensures { self.new ≡ (if is_ok result
             then added self.old schedule.now (end_with kind values.now) else self.old) }
     {
-        let better = lesser_bad(alloc, &self.first_bad, schedule, kind)?;
+        let better = new_first_bad(alloc, &self.first_bad, schedule, kind)?;
         add_view(alloc, &mut self.ends, memory, kind, values)?;
         replace_if_some(&mut self.first_bad, better);
         raise_count(&mut self.tried, 1);
@@ -277,14 +281,14 @@ impl Summary {
     }
 }
 
-// Whether a schedule of this kind failed.
+// Whether a schedule that ends with this kind failed.
 fn is_failed(kind: Kind) -> bool
     ensures { result ≡ is_failed kind }
 {
     matches!(kind, Kind::Failed)
 }
 
-// Whether a schedule of this kind got stuck.
+// Whether a schedule that ends with this kind got stuck.
 fn is_stuck(kind: Kind) -> bool
     ensures { result ≡ is_stuck kind }
 {
@@ -306,13 +310,13 @@ fn raise_count(count: &mut u64, more: u64)
 }
 
 // Sets a count to 0.
-fn reset(count: &mut u64)
+fn reset_count(count: &mut u64)
     ensures { count.new ≡ 0 }
 {
     *count = 0;
 }
 
-// Raises a count by 1, where `counted` is true.
+// Raises a count by 1, up to the greatest `u64`, where `counted` is true.
 fn count_if(counted: bool, count: &mut u64)
     ensures { count.new ≡ counted_if counted count.old }
 {
@@ -321,8 +325,9 @@ fn count_if(counted: bool, count: &mut u64)
     }
 }
 
-// A copy of a schedule that ends with this kind, where it is bad and precedes the first bad one.
-fn lesser_bad(
+// A copy of a schedule that ends with this kind, where it is the new first bad one: it is bad, and
+// `first`, the first bad one so far, is `None` or comes after it. Else `None`.
+fn new_first_bad(
     alloc: Global,
     first: &Option<Vec<u8>>,
     schedule: &[u8],
@@ -331,15 +336,15 @@ fn lesser_bad(
     ensures { IfOk result (λ better. option_or (schedule_view better) (schedule_view first.now)
         ≡ first_bad_with (is_bad kind) (schedule_view first.now) schedule.now) }
 {
-    if kind.is_bad() && comes_first(schedule, first) {
+    if kind.is_bad() && precedes_first(schedule, first) {
         Ok(Some(schedule.to_vec(alloc)?))
     } else {
         Ok(None)
     }
 }
 
-// Whether a schedule comes before the first one; where there is no first one yet, it does.
-fn comes_first(schedule: &[u8], first: &Option<Vec<u8>>) -> bool
+// Whether a schedule comes before the `first` one, or there is no first one yet.
+fn precedes_first(schedule: &[u8], first: &Option<Vec<u8>>) -> bool
     ensures { lesser (schedule_view first.now) (Some schedule.now)
         ≡ (if result then Some schedule.now else schedule_view first.now) }
 {
@@ -349,7 +354,7 @@ fn comes_first(schedule: &[u8], first: &Option<Vec<u8>>) -> bool
     }
 }
 
-// Puts the better schedule in place of the first one, where there is a better one.
+// Replaces the `first` schedule by the `better` one, where there is a better one.
 fn replace_if_some(first: &mut Option<Vec<u8>>, better: Option<Vec<u8>>)
     ensures { schedule_view first.new ≡ option_or (schedule_view better) (schedule_view first.old) }
 {
@@ -361,21 +366,21 @@ fn replace_if_some(first: &mut Option<Vec<u8>>, better: Option<Vec<u8>>)
     }
 }
 
-// Puts the other schedule in place of the first one, where it is the lesser or the only one.
-fn take_lesser(first: &mut Option<Vec<u8>>, other: Option<Vec<u8>>)
+// Replaces the `first` schedule by the `other`, where that comes before it or there is no first.
+fn replace_if_lesser(first: &mut Option<Vec<u8>>, other: Option<Vec<u8>>)
     ensures { schedule_view first.new ≡ lesser (schedule_view first.old) (schedule_view other) }
 {
     match other {
         None => {}
         Some(schedule) => {
-            if comes_first(schedule.as_slice(), first) {
+            if precedes_first(schedule.as_slice(), first) {
                 *first = Some(schedule);
             }
         }
     }
 }
 
-// Whether one schedule comes before another.
+// Whether the `first` schedule comes before the `second` in lexicographic order.
 #[tactic(auto, using(schedules::proofs::LeastSchedule::slices_order))]
 fn precedes(first: &[u8], second: &[u8]) -> bool
     ensures { result ≡ precedes first.now second.now }
@@ -383,8 +388,8 @@ fn precedes(first: &[u8], second: &[u8]) -> bool
     first.cmp(&second) == Ordering::Less
 }
 
-// The first schedule, or a copy of the other where that is the lesser or the only one.
-fn keep_lesser(
+// The lesser of two schedules, or the only one: the `first` itself, or a copy of the `other`.
+fn keep_or_copy_lesser(
     alloc: Global,
     first: Option<Vec<u8>>,
     other: &[u8],
@@ -413,8 +418,8 @@ fn copy_schedule(alloc: Global, schedule: &Option<Vec<u8>>) -> Result<Option<Vec
     }
 }
 
-// A copy of the lesser of two schedules, or of the only one there is.
-fn lesser_of(
+// A copy of the lesser of two schedules, or of the only one; `None` where there is none.
+fn copy_lesser(
     alloc: Global,
     first: &Option<Vec<u8>>,
     second: &Option<Vec<u8>>,
@@ -425,11 +430,12 @@ fn lesser_of(
     let copy = copy_schedule(alloc, first)?;
     match second {
         None => Ok(copy),
-        Some(other) => keep_lesser(alloc, copy, other.as_slice()),
+        Some(other) => keep_or_copy_lesser(alloc, copy, other.as_slice()),
     }
 }
 
-// The index at which the view of a kind and values stands in a sorted list, or else belongs.
+// Searches a sorted list for the end view of a kind and values: `Ok` with the index at which it
+// stands, or `Err` with the one at which it belongs.
 fn search_view(ends: &[EndView], kind: Kind, values: &[i64]) -> Result<usize, usize>
     requires { IsStrictlySortedBy view_cmp ends.now }
     ensures { IsPlaceOf (end_with kind values.now) ends.now result }
@@ -437,7 +443,8 @@ fn search_view(ends: &[EndView], kind: Kind, values: &[i64]) -> Result<usize, us
     ends.binary_search_by(|end| EndView::compare_parts(kind, values, end).reverse())
 }
 
-// Where the view of a kind and values stands or belongs in a sorted list, by a hint if it is right.
+// Where the end view of a kind and values stands (`Ok`) or belongs (`Err`) in a sorted list: at the
+// hinted index if it stands there, else by a search, which sets the hint to what it finds.
 fn find_view(
     ends: &[EndView],
     hints: &mut EndHints,
@@ -448,7 +455,7 @@ fn find_view(
     ensures { IsPlaceOf (end_with kind values.now) ends.now result }
 {
     let hint = hints.hint_for(ends.len(), kind, values);
-    if stands_at(ends, hint, kind, values) {
+    if is_view_at(ends, hint, kind, values) {
         return Ok(hint);
     }
     let found = search_view(ends, kind, values);
@@ -458,9 +465,9 @@ fn find_view(
     found
 }
 
-// Whether the view of a kind and values stands at an index.
+// Whether the end view of a kind and values stands at an index of a list; false after its end.
 #[inline(always)]
-fn stands_at(ends: &[EndView], index: usize, kind: Kind, values: &[i64]) -> bool
+fn is_view_at(ends: &[EndView], index: usize, kind: Kind, values: &[i64]) -> bool
     requires { IsStrictlySortedBy view_cmp ends.now }
     ensures { IsTrue result → (index < length ends.now)
         × (with_view (end_with kind values.now) ends.now ≡ ends.now) }
@@ -471,7 +478,8 @@ fn stands_at(ends: &[EndView], index: usize, kind: Kind, values: &[i64]) -> bool
     }
 }
 
-// Puts the view of a kind and values where it belongs in a sorted list, unless it is there.
+// Inserts the end view of a kind and values where it belongs in a sorted list, unless it is there.
+// `memory` says where it may stand, and makes it. An empty list first gets room for three.
 fn add_view(
     alloc: Global,
     ends: &mut Vec<EndView>,
@@ -497,7 +505,7 @@ fn add_view(
     }
 }
 
-// Puts a view where it belongs in a sorted list, unless it is there.
+// Inserts an end view where it belongs in a sorted list; drops it if an equal one is there.
 fn insert_view(ends: &mut Vec<EndView>, view: EndView) -> Result<(), AllocError>
     requires { IsStrictlySortedBy view_cmp ends.old.items }
     ensures items { ends.new.items ≡ (if is_ok result
@@ -515,7 +523,7 @@ fn insert_view(ends: &mut Vec<EndView>, view: EndView) -> Result<(), AllocError>
     }
 }
 
-// Whether each of `views` is in the sorted list `ends`.
+// Whether each of `views` is in the sorted list `ends`; `hints` say at which index it may stand.
 fn has_all(ends: &[EndView], hints: &mut EndHints, views: &[EndView]) -> bool
     requires { IsStrictlySortedBy view_cmp ends.now }
     ensures { IsTrue result → sorted_views (ends.now ++ views.now) ≡ ends.now }
@@ -529,9 +537,10 @@ fn has_all(ends: &[EndView], hints: &mut EndHints, views: &[EndView]) -> bool
     true
 }
 
-// Puts `views` where they belong in the sorted list `ends`, each once. Then `views` is emptied, but
-// not where all of them were there.
-fn join_views(
+// Moves each of `views` to where it belongs in the sorted list `ends`, unless it is there. Room for
+// all is reserved first, so that no insertion fails. `views` is empty then, or as before where all
+// of them were in the list or there is no room.
+fn merge_views(
     ends: &mut Vec<EndView>,
     hints: &mut EndHints,
     views: &mut Vec<EndView>,
@@ -563,8 +572,8 @@ fn copy_views(alloc: Global, views: &[EndView]) -> Result<Vec<EndView>, AllocErr
     Ok(copies)
 }
 
-// The views of two lists, the first of which is sorted, as one sorted list that has each once.
-fn views_of_both(
+// The end views of two lists, of which the first is sorted, as one sorted list that has each once.
+fn merged_views(
     alloc: Global,
     first: &[EndView],
     second: &[EndView],

@@ -39,8 +39,8 @@ pub struct Columns {
 }
 
 impl Columns {
-    /// The columns of a table for `threads` threads, `width` wide, with cells up to `line` wide
-    /// that have the lines of statements. The first threads, as many as fit, have columns of their
+    /// The columns of a table for `threads` threads, `width` wide, whose cells with the lines of
+    /// statements are up to `line` wide. The first threads, as many as fit, have columns of their
     /// own, and all others share one. A width that is too small or too great counts as the least or
     /// the greatest.
     pub fn new(width: usize, threads: usize, line: usize) -> Columns {

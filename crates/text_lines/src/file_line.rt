@@ -25,6 +25,7 @@ impl FileLine<'_> {
 }
 
 impl fmt::Display for FileLine<'_> {
+    /// Writes the number of the line, after the file's name and a colon where that is printed.
     fn fmt<W: fmt::Write>(&self, f: &mut fmt::Formatter<W>) -> fmt::Result {
         if self.is_named {
             write!(f, "{}:", self.file)?;
@@ -38,6 +39,7 @@ impl fmt::Display for FileLine<'_> {
 pub struct InLine<'a>(pub FileLine<'a>);
 
 impl fmt::Display for InLine<'_> {
+    /// Writes `line 12`, or `worker.inc:12` where the name of the file is printed.
     fn fmt<W: fmt::Write>(&self, f: &mut fmt::Formatter<W>) -> fmt::Result {
         let word = if self.0.is_named { "" } else { "line " };
         write!(f, "{word}{}", self.0)

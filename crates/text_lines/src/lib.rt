@@ -154,8 +154,8 @@ pub fn pad_to(row: &mut String, column: usize) -> Result<(), AllocError> {
     put_repeated(row, ' ', spaces)
 }
 
-/// Adds a word to a row. Of a word of more than `columns` columns it adds the beginning and two
-/// dots, together that many columns.
+/// Adds a word to a row. Of a word of more than `columns` columns it adds two dots, and before them
+/// as much of its beginning as fits into `columns` with them.
 pub fn put_truncated(row: &mut String, word: &str, columns: usize) -> Result<(), AllocError> {
     if width_of(word) <= columns {
         return row.push_str(word);
@@ -171,6 +171,7 @@ pub fn put_truncated(row: &mut String, word: &str, columns: usize) -> Result<(),
 pub struct Count<'a>(pub usize, pub &'a str);
 
 impl fmt::Display for Count<'_> {
+    /// Writes the number and what is counted, as `1 step` or `2 steps`.
     fn fmt<W: fmt::Write>(&self, f: &mut fmt::Formatter<W>) -> fmt::Result {
         let ending = if self.0 == 1 { "" } else { "s" };
         write!(f, "{} {}{ending}", self.0, self.1)

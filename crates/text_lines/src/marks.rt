@@ -21,14 +21,14 @@ pub struct Origin {
 }
 
 impl Origin {
-    /// The name of the file, as a mark has it.
+    /// The name of the file that the line comes from, as a mark has it.
     pub fn file(&self) -> &[u8]
         ensures { result.now ≡ (line_in self.now).file }
     {
         &self.file
     }
 
-    /// The line, counted from 1.
+    /// The line of that file, counted from 1.
     pub fn line(&self) -> u32
         ensures { result ≡ (line_in self.now).number }
     {
@@ -83,17 +83,17 @@ fn is_name_byte(byte: u8) -> bool
 
 // Whether a byte may come after the name of the file in a mark, where flags are: it is a digit, a
 // blank, or the carriage return of a line end.
-fn is_flag(byte: u8) -> bool
+fn is_flag_byte(byte: u8) -> bool
     ensures { result ≡ is_flag byte }
 {
     byte.is_ascii_digit() || byte == b' ' || byte == b'\r'
 }
 
 // Whether all of the bytes may come after the name of the file in a mark, where flags are.
-fn are_flags(bytes: &[u8]) -> bool
+fn are_flag_bytes(bytes: &[u8]) -> bool
     ensures { result ≡ list_all is_flag bytes.now }
 {
-    bytes.iter().all(|byte| is_flag(*byte))
+    bytes.iter().all(|byte| is_flag_byte(*byte))
 }
 
 // How many decimal digits a text begins with.
@@ -104,7 +104,8 @@ fn leading_digits(text: &[u8]) -> usize
     text.iter().take_while(|byte| byte.is_ascii_digit()).count()
 }
 
-// How many bytes of a text come before its first quote; all where it has none.
+// The length of the name that a text begins with: how many bytes come before the first quote; all
+// where there is none.
 fn name_length(text: &[u8]) -> usize
     ensures value { result ≡ prefix_len is_inside text.now }
     ensures within { result ≤ length text.now }
@@ -113,13 +114,13 @@ fn name_length(text: &[u8]) -> usize
 }
 
 // The name of a file that a text begins with, up to the quote that closes it. `None` where no quote
-// does, or where more comes after it than the flags of a mark, which are digits and blanks.
+// does, or where anything else than the flags of a mark comes after it.
 fn name_before_quote(text: &[u8]) -> Option<&[u8]>
     ensures { MatchOption result (name_in text.now ≡ None)
         (λ name. name_in text.now ≡ Some name.now) }
 {
     let end = name_length(text);
-    if end < text.len() && are_flags(&text[end + 1..]) {
+    if end < text.len() && are_flag_bytes(&text[end + 1..]) {
         Some(&text[..end])
     } else {
         None
@@ -127,7 +128,7 @@ fn name_before_quote(text: &[u8]) -> Option<&[u8]>
 }
 
 // The name of a file in what comes after the number of a mark: a blank, the name in quotes, and
-// flags. `None` where that isn't what comes.
+// flags. `None` where the text is of another form.
 fn quoted_name(text: &[u8]) -> Option<&[u8]>
     ensures { MatchOption result (name_of text.now ≡ None)
         (λ name. name_of text.now ≡ Some name.now) }
@@ -258,7 +259,7 @@ impl Marks {
         })
     }
 
-    /// Where a line of the text comes from; `None` where no mark before the line says so, or there
+    /// Where a line of the text comes from; `None` where no mark before the line tells it, or there
     /// is no such line. Lines count from 1.
     pub fn origin(&self, line: u32) -> Option<&Origin>
         ensures { option_map (λ o. line_in o.now) result ≡ origin_at (origins_in self.now) line }

@@ -4,10 +4,10 @@
 #![tactic(auto)]
 
 #[cfg(test)]
+mod advice_lines;
+#[cfg(test)]
 mod part_lines;
 #[cfg(test)]
 mod programs;
-#[cfg(test)]
-mod refusals;
 #[cfg(test)]
 mod texts;

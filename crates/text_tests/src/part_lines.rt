@@ -102,7 +102,8 @@ const TEXTS: [(&str, &str); 6] = [
     ("S S", "1: no JSON"),
 ];
 
-/// The part whose line is `STUCK`.
+// The part whose line is `STUCK`: bound 1, 6 schedules tried under the prefix `0`, 2 of them stuck,
+// the first of which is `0,0,1`; some go beyond the bound.
 fn stuck_part(alloc: Global) -> Result<Part, Fail> {
     let mut ends = Vec::new(alloc);
     ends.push(EndView::new(Kind::Done, vec![in alloc; 50, -7]?))?;
@@ -127,7 +128,8 @@ fn stuck_part(alloc: Global) -> Result<Part, Fail> {
     })
 }
 
-/// The part whose line is `STOPPED`.
+// The part whose line is `STOPPED`: no bound, an empty prefix and summary, and a search that was
+// stopped.
 fn stopped_part(alloc: Global) -> Part {
     Part {
         under: Vec::new(alloc),
@@ -140,13 +142,14 @@ fn stopped_part(alloc: Global) -> Part {
     }
 }
 
-/// Compares the line of a part with the wanted one.
+// Checks that the line of a part is `want`.
 fn check_line(rt: &impl Abort, alloc: Global, part: &Part, want: &str) -> Result<(), Fail> {
     let line = part_line(alloc, part)?;
     assert_eq!(rt; line.as_slice(), want.as_bytes());
     Ok(())
 }
 
+// The lines of the two parts are `STUCK` and `STOPPED`.
 #[test]
 fn parts_have_lines(rt: HostRuntime) -> Result<(), Fail> {
     let alloc = rt.alloc();
@@ -154,6 +157,7 @@ fn parts_have_lines(rt: HostRuntime) -> Result<(), Fail> {
     check_line(&rt, alloc, &stopped_part(alloc), STOPPED)
 }
 
+// `STUCK` and `STOPPED` are each read as a part whose line is the same again.
 #[test]
 fn lines_are_read(rt: HostRuntime) -> Result<(), Fail> {
     let alloc = rt.alloc();
@@ -161,7 +165,7 @@ fn lines_are_read(rt: HostRuntime) -> Result<(), Fail> {
     check_line(&rt, alloc, &part_from(alloc, STOPPED.as_bytes())?, STOPPED)
 }
 
-/// Compares why a text is no line of a part.
+// Checks that a text is refused as the line of a part, for the reason `want`.
 fn check_refusal(rt: &impl Abort, alloc: Global, text: &str, want: &str) -> Result<(), Fail> {
     let Err(error) = part_from(alloc, text.as_bytes()) else {
         return Err(Fail::new(text));
@@ -171,6 +175,8 @@ fn check_refusal(rt: &impl Abort, alloc: Global, text: &str, want: &str) -> Resu
     Ok(())
 }
 
+// Each row of `REFUSED` makes a line of `STUCK` by one replacement, which is refused for its
+// reason.
 #[test]
 fn other_lines_are_refused(rt: HostRuntime) -> Result<(), Fail> {
     let alloc = rt.alloc();
@@ -181,20 +187,21 @@ fn other_lines_are_refused(rt: HostRuntime) -> Result<(), Fail> {
     Ok(())
 }
 
-/// How many parts a text has, or why the text is refused.
-fn parts_or_error(alloc: Global, text: &str) -> Result<String, Fail> {
+// How many parts a text has, or why the text is refused, in one line.
+fn part_count_or_refusal(alloc: Global, text: &str) -> Result<String, Fail> {
     Ok(match parts_from(alloc, text.as_bytes()) {
         Ok(parts) => format!(in alloc; "{} parts", parts.len())?,
         Err(error) => format!(in alloc; "{error}")?,
     })
 }
 
+// Each text of `TEXTS`, with `STUCK` in place of each `S`, has the parts or the refusal of its row.
 #[test]
 fn texts_have_parts(rt: HostRuntime) -> Result<(), Fail> {
     let alloc = rt.alloc();
     for (text, want) in &TEXTS {
         let lines = text.replace(alloc, "S", STUCK)?;
-        let told = parts_or_error(alloc, lines.as_str())?;
+        let told = part_count_or_refusal(alloc, lines.as_str())?;
         assert_eq!(rt; told.as_str(), *want, "{text}");
     }
     Ok(())

@@ -105,7 +105,7 @@ const FAULTS: [(&str, &str); 28] = [
 const CUT: &[u8] =
     b"mutex m; cond c; thread A { lock m; wait c m; unlock m; } thread B { lock m; wait c m; unlock m; } thread C { lock m; broadcast c; unlock m; }";
 
-/// A text with as many objects of each kind, threads, locals and instructions as the limits allow.
+// A text with as many objects of each kind, threads, locals and instructions as the limits allow.
 fn fullest_text(alloc: Global) -> Result<String, Fail> {
     let mut text = String::new(alloc);
     for i in 0..16 {
@@ -124,7 +124,8 @@ fn fullest_text(alloc: Global) -> Result<String, Fail> {
     Ok(text)
 }
 
-/// A thread with 32 blocks of a hundred copies each inside one another, and this in the innermost.
+// The text of a thread of 32 nested blocks, each repeated a hundred times, with `innermost` in the
+// innermost one.
 fn nested_copies(alloc: Global, innermost: &str) -> Result<String, Fail> {
     let mut text = String::from_str(alloc, "thread A { ")?;
     for _ in 0..32 {
@@ -137,14 +138,15 @@ fn nested_copies(alloc: Global, innermost: &str) -> Result<String, Fail> {
     Ok(text)
 }
 
-/// The program that a text spells.
+// The program that a text spells.
 fn program_of(alloc: Global, text: &[u8]) -> Result<Program, Fail> {
     let tree = parse(alloc, text)?;
     Ok(lower(alloc, &tree)?)
 }
 
-/// The line of the first fault of a text that spells a tree, or `no fault`.
-fn fault_of(alloc: Global, text: &str) -> Result<String, Fail> {
+// The line of the first fault of a text that parses, as `check C1 Duplicate at 1:14` (the code and
+// name of the fault, and its place as LINE:COLUMN, if any), or `no fault`.
+fn fault_or_none(alloc: Global, text: &str) -> Result<String, Fail> {
     let tree = parse(alloc, text.as_bytes())?;
     match lower(alloc, &tree) {
         Ok(_) => Ok(String::from_str(alloc, "no fault")?),
@@ -152,19 +154,20 @@ fn fault_of(alloc: Global, text: &str) -> Result<String, Fail> {
     }
 }
 
+// Each text of `FAULTS` parses, and its program is refused with the line of its row.
 #[test]
 fn first_faults(rt: HostRuntime) -> Result<(), Fail> {
     first_fault_is_first();
     for (text, want) in &FAULTS {
-        let line = fault_of(rt.alloc(), text)?;
+        let line = fault_or_none(rt.alloc(), text)?;
         assert_eq!(rt; line.as_str(), *want, "{text}");
     }
     Ok(())
 }
 
-/// 1 and 0 for a text that is accepted, 0 and 1 for one whose fault is that it has no threads, two
-/// zeros for one that spells no tree; none where the text has another fault.
-fn accepted_or_empty(alloc: Global, text: &[u8]) -> Option<(u32, u32)> {
+// What a text adds to the numbers of accepted texts and of texts without threads: 1 and 0, or 0 and
+// 1, or zeros where it doesn't parse; `None` where it has another fault.
+fn acceptance_counts(alloc: Global, text: &[u8]) -> Option<(u32, u32)> {
     let Ok(tree) = parse(alloc, text) else {
         return Some((0, 0));
     };
@@ -175,12 +178,13 @@ fn accepted_or_empty(alloc: Global, text: &[u8]) -> Option<(u32, u32)> {
     }
 }
 
+// Of all cuts of `CUT` that parse, 5 are programs, and 5 are refused since they have no threads.
 #[test]
 fn cuts_are_accepted_or_have_no_threads(rt: HostRuntime) -> Result<(), Fail> {
     let mut accepted = 0_u32;
     let mut without_threads = 0_u32;
     for end in 0..=CUT.len() {
-        let Some((whole, empty)) = accepted_or_empty(rt.alloc(), &CUT[..end]) else {
+        let Some((whole, empty)) = acceptance_counts(rt.alloc(), &CUT[..end]) else {
             return Err(Fail::new("a cut text has another fault"));
         };
         accepted = accepted.saturating_add(whole);
@@ -190,19 +194,21 @@ fn cuts_are_accepted_or_have_no_threads(rt: HostRuntime) -> Result<(), Fail> {
     Ok(())
 }
 
-/// Whether a text, which spells a tree, is refused for the length of its first thread's code.
-fn is_too_long(alloc: Global, text: &str) -> Result<bool, Fail> {
+// Whether a text that parses is refused since the code of its first thread is too long.
+fn is_code_too_long(alloc: Global, text: &str) -> Result<bool, Fail> {
     let tree = parse(alloc, text.as_bytes())?;
     Ok(matches!(lower(alloc, &tree), Err(CheckError::CodeTooLong(0))))
 }
 
+// An assertion in 32 nested blocks, each repeated 100 times, makes the code too long.
 #[test]
 fn nested_copies_are_too_long(rt: HostRuntime) -> Result<(), Fail> {
     let text = nested_copies(rt.alloc(), "assert 1;")?;
-    assert!(rt; is_too_long(rt.alloc(), text.as_str())?);
+    assert!(rt; is_code_too_long(rt.alloc(), text.as_str())?);
     Ok(())
 }
 
+// 32 nested blocks without a statement, each repeated 100 times, make no code, and are accepted.
 #[test]
 fn nested_copies_of_nothing(rt: HostRuntime) -> Result<(), Fail> {
     let text = nested_copies(rt.alloc(), "")?;
@@ -211,6 +217,7 @@ fn nested_copies_of_nothing(rt: HostRuntime) -> Result<(), Fail> {
     Ok(())
 }
 
+// Nine threads are accepted: the limit of 8 is that of mutexes, of conditions and of semaphores.
 #[test]
 fn nine_threads(rt: HostRuntime) -> Result<(), Fail> {
     let text =
@@ -220,7 +227,8 @@ fn nine_threads(rt: HostRuntime) -> Result<(), Fail> {
     Ok(())
 }
 
-/// Compares how many objects the program of the fullest text has: as many as the limits allow.
+// Checks that the program of the fullest text has as many objects as the limits allow, and that the
+// last variable and semaphore have the opening values 15 and 7.
 fn check_fullest_objects(rt: &impl Abort, program: &Program) {
     assert_eq!(rt; program.variables(), 16);
     assert_eq!(rt;
@@ -231,10 +239,14 @@ fn check_fullest_objects(rt: &impl Abort, program: &Program) {
         ),
         (8, 8, 8)
     );
-    assert_eq!(rt; (program.opening(15), program.count(7)), (15, 7));
+    assert_eq!(rt;
+        (program.initial_value(15), program.initial_count(7)),
+        (15, 7)
+    );
 }
 
-/// Compares how many threads, locals and instructions the program of the fullest text has.
+// Checks that the program of the fullest text has as many threads, locals and instructions as the
+// limits allow, and the name and the last instruction of its last thread.
 fn check_fullest_threads(rt: &impl Abort, program: &Program) {
     assert_eq!(rt; program.threads(), 16);
     for t in 0..16 {
@@ -252,6 +264,8 @@ fn check_fullest_threads(rt: &impl Abort, program: &Program) {
     assert_eq!(rt; program.code(15).last(), Some(&last));
 }
 
+// A text that comes up to each limit is accepted. The laws say the limits, and that programs keep
+// them.
 #[test]
 fn largest_programs(rt: HostRuntime) -> Result<(), Fail> {
     let text = fullest_text(rt.alloc())?;
@@ -263,6 +277,8 @@ fn largest_programs(rt: HostRuntime) -> Result<(), Fail> {
     Ok(())
 }
 
+// `repeat 2` makes two copies of the `if`. `SkipIfZero` and `Skip` leave out as many instructions
+// after them as they say: a `leave` skips the rest of both copies, the end of a branch the `else`.
 #[test]
 fn jumps(rt: HostRuntime) -> Result<(), Fail> {
     let text = "var x; thread A { repeat 2 { if r { leave; } else { load q x; } } store x 1; }";
@@ -292,6 +308,8 @@ fn jumps(rt: HostRuntime) -> Result<(), Fail> {
     Ok(())
 }
 
+// A `set`, a `cas` and two `add`s are each one instruction. Locals have numbers in the order of
+// their first uses: q, r, s, t are 0 to 3; the variables x and y are 0 and 1.
 #[test]
 fn atomic_updates(rt: HostRuntime) -> Result<(), Fail> {
     let text = "var x; var y; thread A { set q 0; cas r y s t; add s y q; add s x -1; }";
@@ -325,16 +343,24 @@ fn atomic_updates(rt: HostRuntime) -> Result<(), Fail> {
 const PARTS: &str =
     "sem t = 1; var x; mutex m; cond c; var y = -3; mutex n; sem s = 5; cond d; thread A { } thread B { wait d n; acquire s; set r y1 + 2; }";
 
-/// Compares the variables and semaphores of the program of `PARTS`.
+// Checks how many variables and semaphores the program of `PARTS` has, their opening values, and
+// the name of the second one of each.
 fn check_variables_and_semaphores(rt: &impl Abort, program: &Program) {
     assert_eq!(rt; (program.variables(), program.semaphores()), (2, 2));
-    assert_eq!(rt; (program.opening(0), program.opening(1)), (0, -3));
-    assert_eq!(rt; (program.count(0), program.count(1)), (1, 5));
+    assert_eq!(rt;
+        (program.initial_value(0), program.initial_value(1)),
+        (0, -3)
+    );
+    assert_eq!(rt;
+        (program.initial_count(0), program.initial_count(1)),
+        (1, 5)
+    );
     assert_eq!(rt; program.variable_name(1), b"y".as_slice());
     assert_eq!(rt; program.semaphore_name(1), b"s".as_slice());
 }
 
-/// Compares the mutexes, conditions and threads of the program of `PARTS`.
+// Checks how many mutexes, conditions and threads the program of `PARTS` has, and the name of the
+// second one of each.
 fn check_mutexes_conditions_and_threads(rt: &impl Abort, program: &Program) {
     assert_eq!(rt;
         (program.mutexes(), program.conditions(), program.threads()),
@@ -345,14 +371,16 @@ fn check_mutexes_conditions_and_threads(rt: &impl Abort, program: &Program) {
     assert_eq!(rt; program.thread_name(1), b"B".as_slice());
 }
 
+// Objects of a kind, and threads, have their numbers in the order of the text `PARTS`.
 #[test]
-fn parts(rt: HostRuntime) -> Result<(), Fail> {
+fn objects_and_threads_have_numbers_and_names(rt: HostRuntime) -> Result<(), Fail> {
     let program = program_of(rt.alloc(), PARTS.as_bytes())?;
     check_variables_and_semaphores(&rt, &program);
     check_mutexes_conditions_and_threads(&rt, &program);
     Ok(())
 }
 
+// `{:?}` shows the code of thread B of `PARTS`: objects and locals by their numbers.
 #[test]
 fn code_is_shown(rt: HostRuntime) -> Result<(), Fail> {
     let program = program_of(rt.alloc(), PARTS.as_bytes())?;
@@ -369,7 +397,9 @@ fn code_is_shown(rt: HostRuntime) -> Result<(), Fail> {
 const PLACED: &str =
     "var x;\nthread A {\n  if r == 0 {\n    store x 1;\n  } else {\n    repeat 2 { add old x 1; leave; }\n  }\n  assert r;\n}";
 
-/// The places of the instructions of a text's first thread and the names of its locals, printed.
+// In one line, the places of the instructions of a text's first thread as LINE:COLUMN, and the
+// names of its locals as lists of bytes. `keeps_limits` does nothing; its contract puts the indices
+// in range.
 fn places_and_locals(alloc: Global, text: &str) -> Result<String, Fail> {
     let tree = parse(alloc, text.as_bytes())?;
     let program = lower(alloc, &tree)?;
@@ -380,11 +410,14 @@ fn places_and_locals(alloc: Global, text: &str) -> Result<String, Fail> {
         write!(shown, "{} ", map.place(0, i))?;
     }
     for i in 0..program.locals(0) {
-        write!(shown, "{:?}", map.local(0, i))?;
+        write!(shown, "{:?}", map.local_name(0, i))?;
     }
     Ok(shown)
 }
 
+// The `if` of `PLACED` has two instructions (3:3), around its `store`; each copy of the `repeat` an
+// `add` (6:16) and a `leave` (6:29). The locals are `r` and `old`. A thread without code has
+// neither.
 #[test]
 fn instructions_have_places(rt: HostRuntime) -> Result<(), Fail> {
     places_are_in_their_threads();

@@ -207,15 +207,16 @@ const DECLARATIONS: (&str, &str) = (
 const CUT: &[u8] =
     b"mutex m; cond c; thread A { lock m; wait c m; unlock m; } thread B { lock m; wait c m; unlock m; } thread C { lock m; broadcast c; unlock m; }";
 
-/// The line of a text's first fault, or `tree`.
-fn answer_of(alloc: Global, text: &[u8]) -> Result<String, Fail> {
+// The line of a text's first fault, as `syntax S3 Expected at 1:21` (the code and the name of the
+// fault, and its place as LINE:COLUMN), or `tree` where the text has none.
+fn fault_or_tree(alloc: Global, text: &[u8]) -> Result<String, Fail> {
     match parse(alloc, text) {
         Ok(_) => Ok(String::from_str(alloc, "tree")?),
         Err(error) => Ok(format!(in alloc; "{error}")?),
     }
 }
 
-/// The bodies of a text's threads, as `{:?}` shows them.
+// The bodies of a text's threads, one after the other, as `{:?}` shows them.
 fn bodies_of(alloc: Global, text: &str) -> Result<String, Fail> {
     let tree = parse(alloc, text.as_bytes())?;
     let mut shown = String::new(alloc);
@@ -226,7 +227,7 @@ fn bodies_of(alloc: Global, text: &str) -> Result<String, Fail> {
     Ok(shown)
 }
 
-/// A text of a thread that opens this many blocks inside one another, and closes none.
+// A text of a thread that opens `depth` blocks inside one another, and closes none, nor itself.
 fn open_blocks(alloc: Global, depth: usize) -> Result<String, Fail> {
     let mut text = String::from_str(alloc, "thread A { ")?;
     for _ in 0..depth {
@@ -235,7 +236,7 @@ fn open_blocks(alloc: Global, depth: usize) -> Result<String, Fail> {
     Ok(text)
 }
 
-/// A text of a thread with this many blocks inside one another.
+// A text of a thread with `depth` blocks inside one another, all of which are closed.
 fn nested_blocks(alloc: Global, depth: usize) -> Result<String, Fail> {
     let mut text = open_blocks(alloc, depth)?;
     for _ in 0..depth {
@@ -245,8 +246,8 @@ fn nested_blocks(alloc: Global, depth: usize) -> Result<String, Fail> {
     Ok(text)
 }
 
-/// A thread of this many statements, each with its number and on a line of its own, and spaces up
-/// to this many bytes.
+// The text of a program: a line `var x;`, a line that begins a thread, `statements` lines `add r x
+// I;` with I from 0 on, and the end of the thread. Spaces follow it up to `bytes` bytes in all.
 fn long_text(alloc: Global, statements: usize, bytes: usize) -> Result<String, Fail> {
     let mut text = String::from_str(alloc, "var x;\nthread A {\n")?;
     for i in 0..statements {
@@ -260,35 +261,39 @@ fn long_text(alloc: Global, statements: usize, bytes: usize) -> Result<String, F
     Ok(text)
 }
 
+// Each text of `FAULTS` is refused with the line of its row.
 #[test]
 fn first_faults(rt: HostRuntime) -> Result<(), Fail> {
     for (text, want) in &FAULTS {
-        let line = answer_of(rt.alloc(), text.as_bytes())?;
+        let line = fault_or_tree(rt.alloc(), text.as_bytes())?;
         assert_eq!(rt; line.as_str(), *want, "{text}");
     }
     Ok(())
 }
 
-/// Compares the line of a text's first fault, or `tree`.
-fn check_answer(rt: &impl Abort, alloc: Global, text: &[u8], want: &str) -> Result<(), Fail> {
-    let line = answer_of(alloc, text)?;
+// Checks that the line of a text's first fault, or `tree` where it has none, is `want`.
+fn check_fault(rt: &impl Abort, alloc: Global, text: &[u8], want: &str) -> Result<(), Fail> {
+    let line = fault_or_tree(alloc, text)?;
     assert_eq!(rt; line.as_str(), want);
     Ok(())
 }
 
+// A text of 65,536 spaces has a tree; one more byte is too long.
 #[test]
 fn longest_texts(rt: HostRuntime) -> Result<(), Fail> {
     let spaces = vec![in rt.alloc(); b' '; 65_537]?;
-    check_answer(&rt, rt.alloc(), &spaces[..65_536], "tree")?;
-    check_answer(&rt, rt.alloc(), &spaces, "syntax S5 TooLong at 1:1")
+    check_fault(&rt, rt.alloc(), &spaces[..65_536], "tree")?;
+    check_fault(&rt, rt.alloc(), &spaces, "syntax S5 TooLong at 1:1")
 }
 
+// 32 blocks inside one another have a tree; with 33 the fault is at the brace of the last, column
+// 241.
 #[test]
 fn deepest_blocks(rt: HostRuntime) -> Result<(), Fail> {
     let text = nested_blocks(rt.alloc(), 32)?;
-    check_answer(&rt, rt.alloc(), text.as_bytes(), "tree")?;
+    check_fault(&rt, rt.alloc(), text.as_bytes(), "tree")?;
     let text = nested_blocks(rt.alloc(), 33)?;
-    check_answer(
+    check_fault(
         &rt,
         rt.alloc(),
         text.as_bytes(),
@@ -296,10 +301,12 @@ fn deepest_blocks(rt: HostRuntime) -> Result<(), Fail> {
     )
 }
 
+// The brace of a 33rd block, at column 241, lies too deep, also where no block is closed. Another
+// token there is refused since it is no brace.
 #[test]
 fn blocks_that_stay_open(rt: HostRuntime) -> Result<(), Fail> {
     let text = open_blocks(rt.alloc(), 33)?;
-    check_answer(
+    check_fault(
         &rt,
         rt.alloc(),
         text.as_bytes(),
@@ -307,7 +314,7 @@ fn blocks_that_stay_open(rt: HostRuntime) -> Result<(), Fail> {
     )?;
     let mut no_brace = open_blocks(rt.alloc(), 32)?;
     no_brace.push_str("if 1 x")?;
-    check_answer(
+    check_fault(
         &rt,
         rt.alloc(),
         no_brace.as_bytes(),
@@ -315,18 +322,20 @@ fn blocks_that_stay_open(rt: HostRuntime) -> Result<(), Fail> {
     )
 }
 
+// A text with the largest literal, with a minus and without, has a tree.
 #[test]
 fn largest_literals(rt: HostRuntime) -> Result<(), Fail> {
     let largest = b"var x = 9223372036854775807; var y = -9223372036854775807;";
-    check_answer(&rt, rt.alloc(), largest, "tree")
+    check_fault(&rt, rt.alloc(), largest, "tree")
 }
 
-/// How `{:?}` shows the body of a thread with this statement.
+// How `{:?}` shows the body of a thread with this statement.
 fn body_of(alloc: Global, statement: &str) -> Result<String, Fail> {
     let text = format!(in alloc; "thread A {{ {statement} }}")?;
     bodies_of(alloc, &text)
 }
 
+// Each statement of `STATEMENTS`, alone in a thread, is shown as its row says.
 #[test]
 fn statements(rt: HostRuntime) -> Result<(), Fail> {
     for (statement, want) in &STATEMENTS {
@@ -336,7 +345,8 @@ fn statements(rt: HostRuntime) -> Result<(), Fail> {
     Ok(())
 }
 
-/// Compares the name of an operator, in an assertion on two literals.
+// Checks that an assertion with this operator between two literals has the operator of this name in
+// its tree.
 fn check_operator(rt: &impl Abort, alloc: Global, operator: &str, name: &str) -> Result<(), Fail> {
     let statement = format!(in alloc; "assert 2{operator}1;")?;
     let shown = body_of(alloc, &statement)?;
@@ -348,6 +358,7 @@ fn check_operator(rt: &impl Abort, alloc: Global, operator: &str, name: &str) ->
     Ok(())
 }
 
+// Each operator of `OPERATORS` has the name of its row in the tree of an assertion.
 #[test]
 fn operators(rt: HostRuntime) -> Result<(), Fail> {
     for (operator, name) in &OPERATORS {
@@ -356,6 +367,7 @@ fn operators(rt: HostRuntime) -> Result<(), Fail> {
     Ok(())
 }
 
+// The declarations of a text without threads are shown as `DECLARATIONS` says.
 #[test]
 fn declarations(rt: HostRuntime) -> Result<(), Fail> {
     laws::one_tree();
@@ -368,8 +380,8 @@ fn declarations(rt: HostRuntime) -> Result<(), Fail> {
     Ok(())
 }
 
-/// Whether the cut after this byte is inside a keyword or a name.
-fn is_cut_short(last: usize) -> bool {
+// Whether a cut of `CUT` after the byte at `last` is inside a keyword or a name.
+fn cuts_a_word(last: usize) -> bool {
     let next = last.saturating_add(1);
     match (CUT.get(last), CUT.get(next)) {
         (Some(byte), Some(more)) => byte.is_ascii_alphabetic() && more.is_ascii_alphabetic(),
@@ -377,7 +389,8 @@ fn is_cut_short(last: usize) -> bool {
     }
 }
 
-/// Compares the column of a cut text's first fault, a missing token; none where it is whole.
+// Checks that the first fault of a cut text is a missing token in line 1 at this column, or that
+// the text has no fault where the column is `None`.
 fn check_cut(
     rt: &impl Abort,
     alloc: Global,
@@ -388,7 +401,7 @@ fn check_cut(
         None => String::from_str(alloc, "tree")?,
         Some(column) => format!(in alloc; "syntax S3 Expected at 1:{column}")?,
     };
-    let line = answer_of(alloc, text)?;
+    let line = fault_or_tree(alloc, text)?;
     assert_eq!(rt;
         line.as_str(),
         want.as_str(),
@@ -398,8 +411,9 @@ fn check_cut(
     Ok(())
 }
 
-/// Where the text is cut inside a keyword, the fault is there, since a name may not be there; where
-/// it is cut elsewhere inside a declaration or a thread, the fault is at the end.
+// Each cut of `CUT` is parsed. It has no fault where no declaration or thread is open (`whole`).
+// Inside a keyword the fault is where that begins (`keyword` bytes precede), since a name may not
+// be there; elsewhere it is at the end of the cut. `depth` counts the open braces.
 #[test]
 fn cuts(rt: HostRuntime) -> Result<(), Fail> {
     check_cut(&rt, rt.alloc(), b"", None)?;
@@ -424,7 +438,7 @@ fn cuts(rt: HostRuntime) -> Result<(), Fail> {
         if !byte.is_ascii_alphabetic() {
             keyword = end;
         }
-        let place = if is_cut_short(i) { keyword } else { end };
+        let place = if cuts_a_word(i) { keyword } else { end };
         let column = place.saturating_add(1);
         let want = if whole { None } else { Some(column) };
         check_cut(&rt, rt.alloc(), &CUT[..end], want)?;
@@ -432,10 +446,12 @@ fn cuts(rt: HostRuntime) -> Result<(), Fail> {
     Ok(())
 }
 
-/// Texts of 1, 8 and 64 KiB, with the number of statements that fit.
+/// The numbers of statements and of bytes of texts of 1, 8 and 64 KiB.
 const LONG_TEXTS: [(usize, usize); 3] = [(70, 1_024), (580, 8_192), (4_650, 65_536)];
 
-/// Compares how the statement with this number in a long text is shown.
+// Checks that `{:?}` shows statement `number` of a text of `long_text` as an `add` of the literal
+// `number`, on line `number` + 3 at column 1, with the local `r` (114) at column 5 and `x` (120) at
+// column 7.
 fn check_statement(
     rt: &impl Abort,
     alloc: Global,
@@ -452,7 +468,8 @@ fn check_statement(
     Ok(())
 }
 
-/// Compares the tree of a long text: one variable, and one thread of this many statements.
+// Checks that the tree of a text of `long_text` has one declaration, and one thread of this many
+// statements, each as `check_statement` says.
 fn check_long_tree(
     rt: &impl Abort,
     alloc: Global,
@@ -469,7 +486,8 @@ fn check_long_tree(
     Ok(())
 }
 
-/// Compares the length of a long text of this many statements, and its tree.
+// Checks that the text of `long_text` with this many statements has this many bytes, and the tree
+// that `check_long_tree` says.
 fn check_long_text(
     rt: &impl Abort,
     alloc: Global,
@@ -482,6 +500,7 @@ fn check_long_text(
     check_long_tree(rt, alloc, &tree, statements)
 }
 
+// Texts of up to 64 KiB have the trees of all their statements.
 #[test]
 fn long_texts(rt: HostRuntime) -> Result<(), Fail> {
     for (statements, bytes) in &LONG_TEXTS {

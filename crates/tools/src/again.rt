@@ -1,11 +1,7 @@
-//! Makes each call of the libraries that takes memory, and makes it again where it was refused. So
-//! in a run in which one request for memory is refused it prints what it prints with ample memory:
-//! the call is refused as it should be, leaves what it was lent as before, and succeeds then. It is
-//! here for `tests/allocations.py`.
-//!
-//! The words are `again`, a file and a complete schedule. It ends with status 1 where a call fails
-//! twice, or where a refused one changed something; with 2 where memory for the words, the file or
-//! the program is refused.
+//! The tool `again FILE SCHEDULE`, for `tests/allocations.py`: makes each call of the libraries
+//! that takes memory, once more where it is refused. So it prints the same where one request for
+//! memory is refused. The status is 1 where a call fails twice or a refused one changed something,
+//! 2 where memory for the command line, the file or the program is refused.
 
 use crate::books::{BookFacts, book_facts};
 use crate::runs::{RunFacts, run_facts};
@@ -20,7 +16,7 @@ use std::process::ExitCode;
 use std::sync::Arc;
 use std::{fs, io};
 
-/// The program that a text spells; a call that is refused memory is made once more.
+/// The program that a text spells; a call that fails is made once more. `None` if it fails twice.
 fn program_of(alloc: Global, text: &[u8]) -> Option<Program> {
     let tree = match parse(alloc, text) {
         Ok(tree) => tree,
@@ -32,7 +28,7 @@ fn program_of(alloc: Global, text: &[u8]) -> Option<Program> {
     }
 }
 
-/// The schedule that a text spells; a call that is refused memory is made once more.
+/// The schedule that a text spells; a call that fails is made once more. `None` if it fails twice.
 fn schedule_of(alloc: Global, text: &[u8]) -> Option<Vec<u8>> {
     match schedule_from(alloc, text) {
         Ok(schedule) => Some(schedule),
@@ -40,7 +36,7 @@ fn schedule_of(alloc: Global, text: &[u8]) -> Option<Vec<u8>> {
     }
 }
 
-/// Prints what all the calls answered.
+/// Prints what the calls on a run and on a book answered, in three lines of words and numbers.
 fn print_facts<H: Print>(rt: &H, run: RunFacts, book: BookFacts) -> io::Result<()> {
     let RunFacts {
         variables,
@@ -65,7 +61,7 @@ fn print_facts<H: Print>(rt: &H, run: RunFacts, book: BookFacts) -> io::Result<(
     println!(rt; "copied {copied} next {next} seats {seats}")
 }
 
-/// What all the calls answer on a program and a schedule of it, if none fails twice.
+/// What all calls answer on a program and the text of its schedule; `None` where one fails twice.
 fn facts_of(
     alloc: Global,
     program: &Arc<Program>,
@@ -77,8 +73,9 @@ fn facts_of(
     Some((run, book))
 }
 
-/// Makes the calls on the file and the schedule that the words name, and answers the status; none
-/// where the words name none, or memory for the file or the program is refused.
+/// Makes all calls on the file `words[1]` and the complete schedule `words[2]`, and prints what
+/// they answer. Answers the status: failure where a call fails twice or nothing can be printed;
+/// `None` where a word is missing, the file can't be read or memory for an `Arc` is refused.
 pub fn run<H: Files + Print + Alloc<A = Global>>(rt: &H, words: &[String]) -> Option<ExitCode> {
     let text = fs::read(rt, words.get(1)?.as_str()).ok()?;
     let schedule = words.get(2)?.as_str();

@@ -15,8 +15,9 @@ use walk::walker::walk;
 /// More walks than a search by hand makes.
 const MOST_WALKS: usize = 10_000;
 
-/// What the calls answered, counted. `copied` is the steps of the schedule's item, and `next` those
-/// of the items that the next bound opens with.
+/// What the calls answered: how many walks were settled after the root's, how many schedules were
+/// tried, how many the summary joined with itself has, and how many end views; the steps of the
+/// schedule's item (`copied`) and of the next bound's first round (`next`); a board's seats.
 #[derive(Clone, Copy, Debug)]
 pub struct BookFacts {
     pub settled: u64,
@@ -28,8 +29,7 @@ pub struct BookFacts {
     pub seats: usize,
 }
 
-/// What is seen of a book: what it finished, and copies of its open items and of the items that
-/// wait for the next bound.
+/// What is seen of a book: what it finished, and copies of its open items and its deferred ones.
 #[derive(Drop)]
 struct BookSnapshot {
     tried: u64,
@@ -46,7 +46,7 @@ fn are_equal_items(first: &[Item], second: &[Item]) -> bool {
 }
 
 impl BookSnapshot {
-    // What is seen of a book of this program.
+    // A snapshot of a book of this program.
     fn of(alloc: Global, book: &Book, program: &Program) -> Result<BookSnapshot, AllocError> {
         Ok(BookSnapshot {
             tried: book.finished().tried(),
@@ -58,7 +58,7 @@ impl BookSnapshot {
         })
     }
 
-    // Whether what is seen is equal, of one book at two times.
+    // Whether two snapshots of a book are equal, so that nothing that they show has changed.
     fn is_equal(&self, other: &BookSnapshot) -> bool {
         self.tried == other.tried
             && self.ends == other.ends
@@ -69,7 +69,7 @@ impl BookSnapshot {
     }
 }
 
-// The items of a book's next round.
+// A book's next round, asked for once more if memory is refused; `None` if it is refused again.
 fn next_round(alloc: Global, book: &Book) -> Option<Vec<Item>> {
     match book.round(alloc) {
         Ok(items) => Some(items),
@@ -77,7 +77,7 @@ fn next_round(alloc: Global, book: &Book) -> Option<Vec<Item>> {
     }
 }
 
-// How many steps items have together.
+// How many steps the prefixes of these items have together.
 fn count_steps(items: &[Item]) -> usize {
     let mut sum = 0usize;
     for item in items {
@@ -104,7 +104,7 @@ fn deferred_items(alloc: Global, book: &Book) -> Result<Vec<Item>, AllocError> {
     Ok(items)
 }
 
-// What is seen of a book, asked for once more where memory is refused.
+// A snapshot of a book, made once more if memory is refused; `None` if it is refused again.
 fn snapshot_of(alloc: Global, book: &Book, program: &Program) -> Option<BookSnapshot> {
     match BookSnapshot::of(alloc, book, program) {
         Ok(seen) => Some(seen),
@@ -112,7 +112,7 @@ fn snapshot_of(alloc: Global, book: &Book, program: &Program) -> Option<BookSnap
     }
 }
 
-// A walk of an item that tries one schedule.
+// A walk of an item that tries one schedule, made once more if it fails; `None` if it fails again.
 fn walk_one(alloc: Global, item: &Item, mode: Mode) -> Option<Walked> {
     match walk(alloc, item, mode, 1) {
         Ok(walked) => Some(walked),
@@ -120,7 +120,8 @@ fn walk_one(alloc: Global, item: &Item, mode: Mode) -> Option<Walked> {
     }
 }
 
-// Walks an item and settles the walk; once more where memory is refused, if the book is unchanged.
+// Walks an item and settles the walk, once more where memory to settle it is refused and the book
+// is unchanged. `None` where the book is changed, or a call fails for another reason or twice.
 fn walk_and_settle(alloc: Global, book: &mut Book, program: &Program, item: &Item) -> Option<()> {
     let before = snapshot_of(alloc, book, program)?;
     match book.settle(alloc, walk_one(alloc, item, book.mode())?) {
@@ -135,7 +136,8 @@ fn walk_and_settle(alloc: Global, book: &mut Book, program: &Program, item: &Ite
     }
 }
 
-// How many schedules a summary joined with itself counts, and how many end views a copy of it has.
+// Joins a summary with itself and copies the result: how many schedules the copy counts, and how
+// many end views it has. `None` where a call fails twice.
 fn doubled_counts(alloc: Global, summary: &Summary) -> Option<(u64, usize)> {
     let twice = match summary.join(alloc, summary) {
         Ok(twice) => twice,
@@ -148,7 +150,7 @@ fn doubled_counts(alloc: Global, summary: &Summary) -> Option<(u64, usize)> {
     Some((copy.tried(), copy.ends().len()))
 }
 
-// The item of the schedules that begin with these steps, made from them and copied.
+// A copy of the item of this prefix; `None` where a call to make or to copy it fails twice.
 fn item_after(alloc: Global, program: &Arc<Program>, steps: &[u8]) -> Option<Item> {
     let item = match Item::at(alloc, Arc::try_clone(program).ok()?, steps) {
         Ok(item) => item,
@@ -160,7 +162,7 @@ fn item_after(alloc: Global, program: &Arc<Program>, steps: &[u8]) -> Option<Ite
     }
 }
 
-// How many seats a board has that is made for three.
+// How many seats a new board of 5 numbers and 3 seats has; `None` where memory is refused twice.
 fn count_seats(alloc: Global) -> Option<usize> {
     let (_board, seats) = match Board::new(alloc, 5, 3) {
         Ok(made) => made,
@@ -169,7 +171,7 @@ fn count_seats(alloc: Global) -> Option<usize> {
     Some(seats.len())
 }
 
-// A book of a program, at no preemption.
+// A new book of a program, at bound 0, made once more if memory is refused; `None` if it is again.
 fn open_book(alloc: Global, program: &Arc<Program>) -> Option<Book> {
     match Book::open(alloc, Arc::try_clone(program).ok()?, Mode::Bounded(0)) {
         Ok(book) => Some(book),
@@ -177,8 +179,9 @@ fn open_book(alloc: Global, program: &Arc<Program>) -> Option<Book> {
     }
 }
 
-// Walks all items of a book's bound and settles the walks; answers how many beside the root's.
-fn settle_bound(alloc: Global, book: &mut Book, program: &Arc<Program>) -> Option<u64> {
+// Walks the root of a new book and then all items that are open, and settles the walks. Answers how
+// many there were after the root's, at most `MOST_WALKS`; `None` where a walk or settling it fails.
+fn walk_and_settle_bound(alloc: Global, book: &mut Book, program: &Arc<Program>) -> Option<u64> {
     let mut settled = 0u64;
     walk_and_settle(alloc, book, program, &item_after(alloc, program, &[])?)?;
     for _ in 0..MOST_WALKS {
@@ -193,10 +196,10 @@ fn settle_bound(alloc: Global, book: &mut Book, program: &Arc<Program>) -> Optio
 }
 
 /// What the calls of a search answer that tries all schedules without a preemption, one a walk, and
-/// goes to the next bound then; and what the calls on the item of a schedule answer.
+/// then raises the bound; and those on a board and a schedule's item. `None` where one fails twice.
 pub fn book_facts(alloc: Global, program: &Arc<Program>, schedule: &[u8]) -> Option<BookFacts> {
     let mut book = open_book(alloc, program)?;
-    let settled = settle_bound(alloc, &mut book, program)?;
+    let settled = walk_and_settle_bound(alloc, &mut book, program)?;
     let tried = book.finished().tried();
     let (joined, ends) = doubled_counts(alloc, book.finished())?;
     book.raise().ok()?;

@@ -5,7 +5,7 @@ use std::alloc::Global;
 use std::sync::atomic::{AtomicU64, Ordering};
 use std::{fmt, thread};
 
-/// How many events are logged at most.
+/// The events that a log has room for.
 const LOG_CAPACITY: usize = 1 << 17;
 
 /// How many items a full round has.
@@ -14,26 +14,24 @@ const FULL_ROUND: u64 = 64;
 /// How many turns a held worker waits at most; far fewer are enough.
 const MOST_TURNS: u64 = 2_000_000;
 
-/// How many turns more a worker is held where another worker has to be through with an item. Where
-/// other programs have the processors a turn takes as long as one of theirs.
+/// How many turns more a worker is held, so that another one is through with its walked item.
 const EXTRA_TURNS: u64 = 500;
 
 /// What a gate does with the workers that ask it.
 #[derive(Clone, Copy, Debug)]
 pub enum Policy {
-    /// The gate stops nobody and holds nobody.
+    /// The gate stops nobody and holds nobody, though it says that it may stop.
     Open,
     /// The gate stops nobody and holds nobody, and says that it never stops anybody.
-    Never,
+    NeverStop,
     /// The gate lets this many calls pass, and stops each later one.
     PassFirst(u64),
     /// The gate stops this worker alone.
     StopWorker(u64),
     /// The gate stops at the items of a round from the item of this number on.
     StopFrom(u64),
-    /// In a round of 64 items the gate holds the first calls, as many as this, until the last one
-    /// of them has begun, then as many next ones, and so on as long as there are as many items.
-    HoldTogether(u64),
+    /// In a round of 64 items the gate holds each group of this many calls until all have begun.
+    HoldGroup(u64),
     /// The gate holds who comes to later items of a round until this one is walked, and a bit more.
     HoldAfter(u64),
 }
@@ -53,6 +51,7 @@ enum Event {
 pub struct LogEntry(u64);
 
 impl fmt::Display for LogEntry {
+    // The kind of the event, its worker and item; of a round, the schedules tried and items open.
     fn fmt<W: fmt::Write>(&self, f: &mut fmt::Formatter<W>) -> fmt::Result {
         let number = self.0 % (1 << 32);
         let worker = self.0 / (1 << 32) % (1 << 16);
@@ -72,17 +71,18 @@ pub struct LoggingGate {
     policy: Policy,
     entries: Vec<AtomicU64>,
     count: AtomicU64,
-    /// How many calls of `before` have begun in all, and then those in this round.
+    /// How many calls of `before` have begun.
     asked: AtomicU64,
+    /// How many of these have begun in this round, counted for `HoldGroup` alone.
     begun: AtomicU64,
     /// How many items were open when the round began.
     open: AtomicU64,
-    /// 1 where the item that `HoldAfter` tells was walked in this round.
+    /// 1 where the item that `HoldAfter` names was walked in this round.
     walked: AtomicU64,
 }
 
 impl LoggingGate {
-    /// A gate that has logged nothing, if there is memory for the log.
+    /// A gate of this policy that has logged nothing; `None` where memory for its log is refused.
     pub fn new(alloc: Global, policy: Policy) -> Option<LoggingGate> {
         let mut entries = Vec::new(alloc);
         for _ in 0..LOG_CAPACITY {
@@ -99,12 +99,12 @@ impl LoggingGate {
         })
     }
 
-    /// How many events are in the log.
+    /// How many events are in the log; events that it had no room for are not counted.
     pub fn log_len(&self) -> usize {
         (self.count.load(Ordering::SeqCst) as usize).min(self.entries.len())
     }
 
-    /// The event at a place of the log.
+    /// The event at a place of the log; after its last place, an entry of zeros.
     pub fn entry(&self, place: usize) -> LogEntry {
         match self.entries.get(place) {
             Some(line) => LogEntry(line.load(Ordering::SeqCst)),
@@ -112,7 +112,7 @@ impl LoggingGate {
         }
     }
 
-    // Puts an event at the end of the log, if there is room.
+    // Puts an event in the log, if there is room: its kind, 16 bits of worker and 32 of number.
     fn log(&self, event: Event, worker: u32, number: u64) {
         let kind = match event {
             Event::Go => 0u64,
@@ -129,17 +129,18 @@ impl LoggingGate {
         }
     }
 
-    // Whether a call of this worker for this item is stopped, after `before` other calls.
+    // Whether the policy stops a worker at this item of a round, after `before` calls to the gate.
     fn is_stopped(&self, worker: u32, item: u64, before: u64) -> bool {
         match self.policy {
             Policy::PassFirst(most) => before >= most,
             Policy::StopWorker(number) => u64::from(worker) == number,
             Policy::StopFrom(first) => item >= first,
-            Policy::Open | Policy::Never | Policy::HoldTogether(_) | Policy::HoldAfter(_) => false,
+            Policy::Open | Policy::NeverStop | Policy::HoldGroup(_) | Policy::HoldAfter(_) => false,
         }
     }
 
-    // Holds a worker until a word is `least` or more, or logs it as late after too many turns.
+    // Holds a worker at an item until others raise `word` to `least`; after `MOST_TURNS` turns it
+    // is logged as late and held no longer.
     fn hold(&self, word: &AtomicU64, least: u64, worker: u32, item: u64) {
         for _ in 0..MOST_TURNS {
             if word.load(Ordering::SeqCst) >= least {
@@ -150,8 +151,9 @@ impl LoggingGate {
         self.log(Event::Late, worker, item);
     }
 
-    // Holds a worker in a full round until all calls of its group, of `number` calls, have begun.
-    fn hold_together(&self, number: u64, worker: u32, item: u64) {
+    // Counts a call in this round, and holds its worker until all `number` calls of its group have
+    // begun. Nobody is held in a round of fewer than 64 items, or in a last group with fewer calls.
+    fn hold_group(&self, number: u64, worker: u32, item: u64) {
         let begun = self.begun.fetch_add(1, Ordering::SeqCst);
         let groups = (begun / number.max(1)).saturating_add(1);
         let least = groups.saturating_mul(number);
@@ -160,7 +162,8 @@ impl LoggingGate {
         }
     }
 
-    // Holds a worker until the item that `HoldAfter` tells was walked, and a little more.
+    // Holds a worker until the item of `HoldAfter` is walked in this round, and then for
+    // `EXTRA_TURNS` turns; doesn't hold it if the item is walked already.
     fn hold_after(&self, worker: u32, item: u64) {
         if self.walked.load(Ordering::SeqCst) > 0 {
             return;
@@ -171,10 +174,10 @@ impl LoggingGate {
         }
     }
 
-    // Holds a worker who comes to an item, where the policy says so.
+    // Holds a worker who comes to this item of a round, if the policy says so.
     fn hold_at(&self, worker: u32, item: u64) {
         match self.policy {
-            Policy::HoldTogether(number) => self.hold_together(number, worker, item),
+            Policy::HoldGroup(number) => self.hold_group(number, worker, item),
             Policy::HoldAfter(first) if item > first => self.hold_after(worker, item),
             _ => {}
         }
@@ -186,10 +189,12 @@ impl Gate for LoggingGate {
 
     ghost stops = { λ _. true };
 
+    // Says that the gate may stop, whatever its policy.
     fn may_stop(&self) -> bool {
         true
     }
 
+    // Logs whether the policy stops a worker at an item, and answers it; one that goes may be held.
     fn before(&self, worker: u32, item: u64) -> Answer {
         let before = self.asked.fetch_add(1, Ordering::SeqCst);
         if self.is_stopped(worker, item, before) {
@@ -201,6 +206,7 @@ impl Gate for LoggingGate {
         Answer::Go
     }
 
+    // Logs that an item was walked, and tells those whom `HoldAfter` holds until then.
     fn walked(&self, worker: u32, item: u64) {
         self.log(Event::Walked, worker, item);
         if let Policy::HoldAfter(first) = self.policy {
@@ -210,6 +216,8 @@ impl Gate for LoggingGate {
         }
     }
 
+    // Logs the end of a round, with the open items in place of a worker, so at most `u16::MAX`: an
+    // entry has 16 bits for them. Then resets what is counted in a round.
     fn round_ended(&self, progress: Progress) {
         let open = progress.open_items.min(u16::MAX as usize) as u32;
         self.log(Event::Round, open, progress.tried);
@@ -220,7 +228,7 @@ impl Gate for LoggingGate {
     }
 }
 
-/// A logging gate that says that it never stops anybody.
+/// A gate that logs to another gate's log, stops and holds nobody, and says that it never stops.
 #[derive(Clone, Copy)]
 pub struct NeverStopping<'a>(pub &'a LoggingGate);
 
@@ -229,19 +237,23 @@ impl Gate for NeverStopping<'_> {
 
     ghost stops = { λ _. false };
 
+    // Says that the gate never stops a worker.
     fn may_stop(&self) -> bool {
         false
     }
 
+    // Logs in the other gate that a worker goes on to an item, and lets it go.
     fn before(&self, worker: u32, item: u64) -> Answer {
         self.0.log(Event::Go, worker, item);
         Answer::Go
     }
 
+    // Tells the other gate, which logs it, that a worker has walked an item.
     fn walked(&self, worker: u32, item: u64) {
         self.0.walked(worker, item);
     }
 
+    // Tells the other gate, which logs it, that a round has ended.
     fn round_ended(&self, progress: Progress) {
         self.0.round_ended(progress);
     }

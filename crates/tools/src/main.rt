@@ -1,17 +1,15 @@
-//! Three tools for the scripts, of which the first word chooses one. None is a part of the product.
-//!
-//! - `rounds` searches a guest program by several workers, and prints what a gate heard of it.
-//! - `again` makes each call of the libraries that takes memory again where it was refused.
-//! - `walk` walks the schedules of a guest program, and prints how many there are.
+//! Three tools for the scripts, no part of the product, of which the first word of the command line
+//! chooses one: `rounds` prints what a gate hears of a search, `again` makes calls again that were
+//! refused memory, `walk` counts schedules.
 #![tactic(auto)]
 
 mod again;
 mod books;
 mod gate;
+mod requests;
 mod rounds;
 mod runs;
 mod walks;
-mod words;
 
 use std::alloc::{Alloc, Global};
 use std::fs::Files;
@@ -20,15 +18,16 @@ use std::process::ExitCode;
 use std::sync::Wait;
 use std::thread::Threads;
 
-/// The status where the words ask for nothing, or memory for the words is refused.
+/// The status where the command line asks for no tool, or memory for it is refused.
 const REFUSED: u8 = 2;
 
-/// The words after the program's own name; none where memory runs out.
-fn words_of(rt: &HostRuntime) -> Option<Vec<String>> {
+/// The command line's words after the program's own name; `None` where they can't be read.
+fn command_words(rt: &HostRuntime) -> Option<Vec<String>> {
     std::env::args(rt).ok()?.skip(1).collect(rt.alloc()).ok()
 }
 
-/// Runs the tool that the first word names, and answers its status; none where it names none.
+/// Runs the tool that `words[0]` names, and answers its status. `None` where it names none, or
+/// the tool can't do what the other words ask for.
 fn run<H>(rt: &H, words: &[String]) -> Option<ExitCode>
 where
     H: Threads + Wait + Sync + Files + Print + Alloc<A = Global>,
@@ -41,8 +40,9 @@ where
     }
 }
 
+// Does what the command line asks for, and ends the program with the status.
 fn main(rt: HostRuntime) -> ExitCode {
-    let status = match words_of(&rt) {
+    let status = match command_words(&rt) {
         Some(words) => run(&rt, words.as_slice()),
         None => None,
     };

@@ -1,14 +1,14 @@
-//! Searches a guest program by several workers, and prints what a gate heard of it: who was asked
-//! about which item, and when each round ended. It is here to be looked at by `tests/rounds.py`.
+//! The tool `rounds`, for `tests/rounds.py`: searches a guest program by several workers, and
+//! prints what a gate heard of it: who was asked about which item, and when each round ended.
 //!
-//! The words are `rounds`, a file, a bound or `unbounded`, `quick` or `whole`, the numbers of
-//! workers and of schedules a walk, the limit or 0, and what the gate does: a word and a number.
-//! Each line is a word and numbers: `go`, `stop` and `walked` with worker and item, `round` with
-//! the schedules tried so far and the items that are open then, at most 65,535, `late` where a
-//! worker was held too long. The report is last.
+//! Its words are `rounds`, a file, a bound or `unbounded`, `quick` or `whole`, the numbers of
+//! workers and of schedules a walk, the limit or 0, and the gate's policy: a word and a number. A
+//! line for each event is a word and two numbers: `go`, `stop`, `walked` or `late` (held too long)
+//! with worker and item, `round` with schedules tried and items open, at most 65,535. Then comes
+//! the report.
 
 use crate::gate::{LoggingGate, NeverStopping, Policy};
-use crate::words::{Request, request_of};
+use crate::requests::{Request, parse_request};
 use runner::{Gate, explore_text, report_text};
 use std::alloc::{Alloc, Global};
 use std::fs::Files;
@@ -18,7 +18,8 @@ use std::sync::Wait;
 use std::thread::Threads;
 use std::{fs, io};
 
-/// The text of the report of the search that is requested, with this gate; none where it fails.
+/// Searches the file of a request with this gate, and answers the text of the report. `None` where
+/// the file can't be read or spells no program, or memory runs out.
 fn search_report<G: Gate>(
     rt: &(impl Threads + Wait + Sync + Files + Alloc<A = Global>),
     request: &Request,
@@ -38,8 +39,8 @@ fn search_report<G: Gate>(
     report_text(alloc, &report.ok()?).ok()
 }
 
-/// Prints the log of a gate, and a report.
-fn print_log<H: Print>(rt: &H, gate: &LoggingGate, report: &[u8]) -> io::Result<()> {
+/// Prints the log of a gate, a line for each event, and then the text of a report, if it is UTF-8.
+fn print_log_and_report<H: Print>(rt: &H, gate: &LoggingGate, report: &[u8]) -> io::Result<()> {
     for place in 0..gate.log_len() {
         println!(rt; "{}", gate.entry(place))?;
     }
@@ -49,23 +50,24 @@ fn print_log<H: Print>(rt: &H, gate: &LoggingGate, report: &[u8]) -> io::Result<
     println!(rt; "{report}")
 }
 
-/// Makes the search that the words ask for, and answers the status; none where they ask for none.
+/// Makes the search that a command line's words ask for, and prints the gate's log and the report.
+/// Answers the status: failure where one of that fails; `None` where the words ask for no search.
 pub fn run<H>(rt: &H, words: &[String]) -> Option<ExitCode>
 where
     H: Threads + Wait + Sync + Files + Print + Alloc<A = Global>,
 {
-    let request = request_of(rt.alloc(), words)?;
+    let request = parse_request(rt.alloc(), words)?;
     let Some(gate) = LoggingGate::new(rt.alloc(), request.policy) else {
         return Some(ExitCode::FAILURE);
     };
     let report = match request.policy {
-        Policy::Never => search_report(rt, &request, &NeverStopping(&gate)),
+        Policy::NeverStop => search_report(rt, &request, &NeverStopping(&gate)),
         _ => search_report(rt, &request, &gate),
     };
     let Some(report) = report else {
         return Some(ExitCode::FAILURE);
     };
-    match print_log(rt, &gate, report.as_slice()) {
+    match print_log_and_report(rt, &gate, report.as_slice()) {
         Ok(()) => Some(ExitCode::SUCCESS),
         Err(_) => Some(ExitCode::FAILURE),
     }

@@ -19,7 +19,7 @@ pub struct RunFacts {
     pub traced: usize,
 }
 
-// The opening state of a program.
+// The opening state of a program, made once more if memory is refused; `None` if it is again.
 fn opening_state(alloc: Global, program: &Program) -> Option<State>
     ensures { IfSome result (λ s. IsOf program.now s) }
 {
@@ -29,7 +29,7 @@ fn opening_state(alloc: Global, program: &Program) -> Option<State>
     }
 }
 
-// A copy of a state.
+// A copy of a state, made once more if memory is refused; `None` if it is refused again.
 fn copy_of(alloc: Global, state: &State) -> Option<State>
     ensures { IfSome result (λ s. s ≡ state.now) }
 {
@@ -39,13 +39,13 @@ fn copy_of(alloc: Global, state: &State) -> Option<State>
     }
 }
 
-// The state after a schedule, if each of its threads is enabled in its turn.
+// The state after a schedule; `None` where it doesn't run, or memory is refused twice.
 fn state_after(alloc: Global, program: &Program, schedule: &[u8]) -> Option<State>
     ensures { IfSome result (λ s. IsOf program.now s) }
 {
     let mut state = opening_state(alloc, program)?;
     for thread in schedule {
-        if !state.enabled(program).contains(*thread) {
+        if !state.enabled(program).has(*thread) {
             return None;
         }
         state.step(program, *thread);
@@ -53,8 +53,8 @@ fn state_after(alloc: Global, program: &Program, schedule: &[u8]) -> Option<Stat
     Some(state)
 }
 
-// How many values the end view after a complete schedule has.
-fn viewed_len(alloc: Global, program: &Program, schedule: &[u8]) -> Option<usize> {
+// How many values the end view after a schedule has; `None` if it has none, or a call fails twice.
+fn end_view_len(alloc: Global, program: &Program, schedule: &[u8]) -> Option<usize> {
     let state = state_after(alloc, program, schedule)?;
     let view = match state.view(alloc, program) {
         Ok(view) => view,
@@ -63,7 +63,7 @@ fn viewed_len(alloc: Global, program: &Program, schedule: &[u8]) -> Option<usize
     Some(view?.vars().len())
 }
 
-/// What the calls on a complete schedule answer, if none fails twice.
+/// What the calls to run a complete schedule and to write texts of it answer, if none fails twice.
 pub fn run_facts(alloc: Global, program: &Program, schedule: &[u8]) -> Option<RunFacts> {
     let opening = copy_of(alloc, &opening_state(alloc, program)?)?;
     let run = match replay(alloc, program, schedule) {
@@ -80,7 +80,7 @@ pub fn run_facts(alloc: Global, program: &Program, schedule: &[u8]) -> Option<Ru
     };
     Some(RunFacts {
         variables: opening.variables().len(),
-        viewed: viewed_len(alloc, program, schedule)?,
+        viewed: end_view_len(alloc, program, schedule)?,
         steps: run.lines().len(),
         spelled: spelled.len(),
         traced: traced.len(),

@@ -1,9 +1,6 @@
-//! Walks the schedules of a guest program within a bound, or those that sleep sets leave, and
-//! prints how many there are and how many prefixes the bound put off. It is here to be timed by
-//! `bench/walk.py`.
-//!
-//! The words are `walk`, a file, a bound or `reduced`, and `unlisted` where what the bound puts off
-//! is not to be listed, as at the last bound of a search; then none is counted.
+//! The tool `walk FILE MODE [unlisted]`, for `bench/walk.py`: counts the schedules of a guest
+//! program within a bound, or those that sleep sets leave (`reduced`), and the prefixes that the
+//! bound defers. With `unlisted` these aren't listed, as at a search's last bound, and not counted.
 
 ghost use Rattle.std.specs.Prelude.{◌≡◌, length};
 
@@ -29,7 +26,7 @@ struct Counts {
     deferred: usize,
 }
 
-/// How many schedules a walk tried, how many failed and got stuck, how many prefixes it put off.
+/// The numbers of schedules that a walk tried, of failed and stuck ones, and of listed prefixes.
 fn counts_of(found: &Found) -> Counts
     ensures tried { result.tried ≡ found.now.part.tried }
     ensures failed { result.failed ≡ found.now.part.failed }
@@ -44,8 +41,9 @@ fn counts_of(found: &Found) -> Counts
     }
 }
 
-/// The counts of one walk of all schedules in a mode, which lists what it puts off where `lists`;
-/// none where the text spells no program, or memory ran out.
+/// The counts of one walk of all schedules in a mode, or of the first `u32::MAX`, the greatest
+/// quota. If `lists`, prefixes that the bound defers are listed, and so counted. `None` where the
+/// text spells no program, or memory runs out.
 fn walk_all(alloc: Global, text: &[u8], mode: Mode, lists: bool) -> Option<Counts> {
     let tree = parse(alloc, text).ok()?;
     let program = Arc::new(alloc, lower(alloc, &tree).ok()?).ok()?;
@@ -54,26 +52,27 @@ fn walk_all(alloc: Global, text: &[u8], mode: Mode, lists: bool) -> Option<Count
     let mut found = Found::new(alloc);
     walker.clear(&mut found, lists);
     walker
-        .walk_on(alloc, &mut found, &item, mode, u32::MAX)
+        .walk_into(alloc, &mut found, &item, mode, u32::MAX)
         .ok()?;
     Some(counts_of(&found))
 }
 
-/// The mode that a word names: a bound, or `reduced`.
-fn mode_of(word: &str) -> Option<Mode> {
+/// The mode that a word names: a bound, or `reduced`; `None` where it is neither.
+fn parse_mode(word: &str) -> Option<Mode> {
     if word == "reduced" {
         return Some(Mode::Reduced);
     }
     Some(Mode::Bounded(word.parse().ok()?))
 }
 
-/// What the words ask for: the text of the file, the mode, and whether what is put off is listed.
-fn walk_request<H: Files + Alloc<A = Global>>(
+/// What `walk FILE MODE [unlisted]` asks for: the text of the file, the mode, and whether to list
+/// the prefixes that it defers. `None` where the file can't be read, or a word is missing or wrong.
+fn read_walk_request<H: Files + Alloc<A = Global>>(
     rt: &H,
     words: &[String],
 ) -> Option<(Vec<u8>, Mode, bool)> {
     let text = fs::read(rt, words.get(1)?.as_str()).ok()?;
-    let mode = mode_of(words.get(2)?.as_str())?;
+    let mode = parse_mode(words.get(2)?.as_str())?;
     let Some(word) = words.get(3) else {
         return Some((text, mode, true));
     };
@@ -83,9 +82,10 @@ fn walk_request<H: Files + Alloc<A = Global>>(
     Some((text, mode, false))
 }
 
-/// Makes the walk that the words ask for, and answers the status; none where they ask for none.
+/// Makes the walk that a command line's words ask for, and prints its counts. Answers the status:
+/// failure where the walk fails or can't be printed; `None` where the words ask for no walk.
 pub fn run<H: Files + Print + Alloc<A = Global>>(rt: &H, words: &[String]) -> Option<ExitCode> {
-    let (text, mode, lists) = walk_request(rt, words)?;
+    let (text, mode, lists) = read_walk_request(rt, words)?;
     let Some(
         Counts {
             tried,

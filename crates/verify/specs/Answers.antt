@@ -38,8 +38,8 @@ pub record MayHaveFewer (p : Program) (l : Limits) (b : BadSchedule) : Type 0 wh
   pub rest : IsOpen p l below
 
 -- what an answer says: no schedule is bad; this one is, and none with fewer preemptions, or where
--- that isn't told it is left open; or that is open from so many on, and the search without a bound
--- was cut short
+-- that isn't told it is left open; or that is open from this many preemptions on, and the search
+-- without a bound was cut short
 abbrev pub AnswerMeans : Program → Limits → Correctness → Type 0
 AnswerMeans p l Right = IsRight p
 AnswerMeans p l (Bad b true) = IsBadOf p b × NoBadBelow p b.preemptions

@@ -42,6 +42,7 @@ pub enum Correctness {
 pub struct Preemptions(pub u32);
 
 impl fmt::Display for Preemptions {
+    // The number of preemptions in words.
     fn fmt<W: fmt::Write>(&self, f: &mut fmt::Formatter<W>) -> fmt::Result {
         match self.0 {
             0 => write!(f, "no preemption"),
@@ -59,6 +60,7 @@ struct SearchLine<'a> {
 }
 
 impl fmt::Display for SearchLine<'_> {
+    // How far a search was to go, and what it found, with how many schedules it tried.
     fn fmt<W: fmt::Write>(&self, f: &mut fmt::Formatter<W>) -> fmt::Result {
         let Found { report, bad } = self.found;
         let tried = report.summary.tried();
@@ -83,8 +85,8 @@ impl fmt::Display for SearchLine<'_> {
     }
 }
 
-// How many bounds are searched, from 0 on: those up to `bound`; where a bad schedule is known, of
-// these only those that are less than its preemptions, since one with fewer is looked for.
+// How many bounds are searched, from 0 on: those up to `bound`, but where a bad schedule is known
+// only those that are less than its preemptions, since one with fewer is looked for.
 fn bound_count(known: &Option<BadSchedule>, bound: u32) -> u32
     requires { bound ≤ BOUND }
     ensures { result ≡ stop_of known.now bound }
@@ -95,10 +97,14 @@ fn bound_count(known: &Option<BadSchedule>, bound: u32) -> u32
     }
 }
 
-// The answer where no bad schedule has fewer preemptions than `clear`: the bad schedule `nearer` of
-// the last search with a bound; else the bad schedule `known` of the search without one; else that
-// it is undecided whether one with `clear` preemptions or more is bad.
-fn answer_of(nearer: Option<BadSchedule>, known: Option<BadSchedule>, clear: u32) -> Correctness
+// The answer that a program is bad or undecided, where none of its schedules with fewer preemptions
+// than `clear` is bad. It is bad by the schedule `nearer` of the last search with a bound, else by
+// `known`, that of the search without a bound; where there is neither, it is undecided.
+fn bad_or_undecided(
+    nearer: Option<BadSchedule>,
+    known: Option<BadSchedule>,
+    clear: u32,
+) -> Correctness
     ensures { result ≡ answer_of nearer known clear }
 {
     match (nearer, known) {
@@ -110,17 +116,17 @@ fn answer_of(nearer: Option<BadSchedule>, known: Option<BadSchedule>, clear: u32
     }
 }
 
-// Writes a line on a search that ended to `out`. A failure is passed over: writing the answer to
-// the same stream at the end fails, too, and tells it.
+// Writes to `out` a line on a search that ended. A failure is passed over: writing the answer to
+// the same stream at the end fails, too, and that is told.
 fn write_search_line<W: Write>(out: &mut W, search: Search, found: &Found) {
     let _ = writeln!(out, "{}", SearchLine { search, found });
     let _ = out.flush();
 }
 
-// Whether a program is right, by searches up to 0, 1, 2 .. preemptions. They end at the first that
-// shows that all schedules are fine, finds a bad one or is cut short. The search without a bound,
-// which was made before, found the bad schedule `known`, or was cut short and found none. A line on
-// each search is written to `out`.
+// Whether no schedule of a program is bad, by searches up to 0, 1, 2 .. preemptions, at most the
+// bound of `limits`, and fewer than the bad schedule `known` has. They end at the first that shows
+// that none is bad, finds a bad one or is cut short. The search without a bound, which was made
+// before, found `known`, or was cut short and found none. A line on each is written to `out`.
 #[tactic(auto, using(crate::proofs::Answers::stop_low, crate::proofs::Answers::stopped_at, crate::proofs::Answers::gone_through))]
 fn answer_by_bounds<R, W: Write>(
     rt: &R,
@@ -140,20 +146,20 @@ where
         let search = Search::UpTo(bound);
         let found = run_search(rt, program, search, limits, &Open)?;
         write_search_line(out, search, &found);
-        if found.is_right() {
+        if found.shows_right() {
             return Ok(Correctness::Right);
         }
         if !found.is_clean() {
-            return Ok(answer_of(found.bad, known, bound));
+            return Ok(bad_or_undecided(found.bad, known, bound));
         }
     }
-    Ok(answer_of(None, known, stop))
+    Ok(bad_or_undecided(None, known, stop))
 }
 
-/// Whether a program is right: by a search without a bound, and where that was cut short or found a
-/// bad schedule, which may not be one of fewest preemptions, by searches up to 0, 1, 2 ..
-/// preemptions, at most the bound of `limits`. Each search is cut short at the number of schedules
-/// in `limits`, and as it ends a line on it is written to `out`.
+/// Whether a program is right, that is, no schedule of it is bad: by a search without a bound, and
+/// where that was cut short or found a bad schedule, which may not be one of fewest preemptions, by
+/// searches up to 0, 1, 2 .. preemptions, at most the bound of `limits`. Each search is cut short
+/// at the number of schedules in `limits`, and as it ends a line on it is written to `out`.
 ///
 /// # Errors
 ///

@@ -38,7 +38,7 @@ pub struct Found {
 
 impl Found {
     /// How many preemptions each bad schedule of the program has at least, as the search shows; 0
-    /// where it had no bound.
+    /// where it had no bound, or was cut short before it finished one.
     pub fn clean_below(&self) -> u64
         ensures { result ≡ clean_below self.now.report }
     {
@@ -56,8 +56,8 @@ impl Found {
         }
     }
 
-    /// Whether the search shows that no schedule at all is bad, whatever its preemptions.
-    pub fn is_right(&self) -> bool
+    /// Whether the search shows that the program is right, that is, no schedule at all is bad.
+    pub fn shows_right(&self) -> bool
         ensures { result ≡ is_right self.now.report.verdict }
     {
         match &self.report.verdict {
@@ -82,8 +82,8 @@ fn next_bound(bound: u32) -> u64
     u64::from(bound) + 1
 }
 
-// The options of a search that goes as far as `search` says, is cut short at `limit` schedules, and
-// isn't a quick one.
+// The options of a search that goes as far as `search` says, is cut short at `limit` schedules, has
+// the quota `QUOTA`, and isn't a quick one.
 fn options_of(search: Search, limit: u64) -> Options
     ensures { result ≡ options_of search limit }
 {
@@ -109,9 +109,8 @@ fn bad_schedule(alloc: Global, program: &Program, steps: &[u8]) -> Result<BadSch
     })
 }
 
-// The bad schedule that a report names, with its preemptions and how it ends; `None` where it names
-// none.
-fn named_bad(
+// The bad schedule that a report names, with its preemptions and kind; `None` where it names none.
+fn named_bad_schedule(
     alloc: Global,
     program: &Program,
     report: &Report,
@@ -151,6 +150,6 @@ where
     let alloc = rt.alloc();
     let options = options_of(search, limits.limit);
     let report = explore(rt, alloc, program, options, limits.workers, gate)?;
-    let bad = named_bad(alloc, program, &report)?;
+    let bad = named_bad_schedule(alloc, program, &report)?;
     Ok(Found { report, bad })
 }

@@ -12,8 +12,8 @@ use std::io::Write;
 use std::sync::Wait;
 use std::thread::Threads;
 
-/// Whether the program that a text spells is right: answers what [`verify`] does, which writes a
-/// line on each search to `out`.
+/// Whether the program that a text spells is right: whether none of its schedules fails or gets
+/// stuck. Answers what [`verify`] does, which writes a line on each search to `out`.
 ///
 /// # Errors
 ///

@@ -37,8 +37,8 @@ pub struct Blocked {
 }
 
 impl Blocked {
-    /// A thread that is blocked at the end of an explained schedule, by its number; `None` where
-    /// this thread isn't blocked.
+    /// The thread of this number, as it is blocked at the end of an explained schedule; `None`
+    /// where it isn't blocked.
     pub fn of(told: &Explanation, thread: u8) -> Option<Blocked>
         ensures { result ≡ blocked_of told.now thread }
     {
@@ -51,11 +51,12 @@ impl Blocked {
         })
     }
 
-    /// Whether the instruction of number `at` of thread `other` could end the wait. A wait for a
-    /// mutex is ended by its owner, by an `unlock` or a `wait`. One for a condition is ended by a
-    /// `signal` or a `broadcast`, one for a semaphore by a `release`: of any other thread, and of
-    /// the waiting thread those before the instruction at which it waits.
-    pub fn could_end(self, other: u8, at: usize, instruction: &Instruction) -> bool
+    /// Whether the instruction of number `at` of thread `other` could end the wait, or could have
+    /// ended it in another schedule. For a mutex that is an `unlock` or a `wait` of its owner, for
+    /// a condition a `signal` or a `broadcast`, for a semaphore a `release`. In the waiting thread
+    /// itself, a `signal`, `broadcast` or `release` counts only before the instruction at which the
+    /// thread waits: the thread can't come to a later one before the wait ends.
+    pub fn could_be_unblocked_by(self, other: u8, at: usize, instruction: &Instruction) -> bool
         ensures { result ≡ could_end self other at instruction.now }
     {
         match self.reason {
@@ -63,25 +64,25 @@ impl Blocked {
                 owns(other, self.owner) && releases_mutex(m, instruction)
             }
             Reason::Signal(c) => {
-                self.is_before(other, at) && Use::Signals.is_made(c, instruction)
+                self.may_precede_wait_end(other, at) && Use::Signals.is_made(c, instruction)
             }
             Reason::Acquire(k) => {
-                self.is_before(other, at) && Use::Releases.is_made(k, instruction)
+                self.may_precede_wait_end(other, at) && Use::Releases.is_made(k, instruction)
             }
         }
     }
 
-    // Whether the instruction of number `at` of thread `other` is of another thread than the
-    // waiting one, or before the instruction at which the thread waits.
-    fn is_before(self, other: u8, at: usize) -> bool
+    // Whether the instruction of number `at` of thread `other` can come before the wait ends:
+    // `other` isn't the waiting thread, or `at` is before the instruction at which that one waits.
+    fn may_precede_wait_end(self, other: u8, at: usize) -> bool
         ensures { result ≡ is_before self other at }
     {
         other != self.thread || at < self.instruction
     }
 }
 
-// The owner of the mutex that a thread waits for by this reason, at the end of an explained
-// schedule. `None` where the thread waits for no mutex, or nobody owns the mutex.
+// The owner, at the end of an explained schedule, of the mutex that a thread waits for by this
+// reason. `None` where it waits for no mutex, or nobody owns the mutex.
 fn owner_of(told: &Explanation, reason: Reason) -> Option<u8>
     ensures { result ≡ owner_told told.now (mutex_of reason) }
 {
@@ -102,7 +103,7 @@ fn releases_mutex(wanted: usize, instruction: &Instruction) -> bool
 
 // Adds to `list`, in the order of the code, the statements of thread `other` that could end the
 // wait of a blocked thread, each with what came of it. `code` and `fates` are those of `other`.
-fn put_statements(
+fn put_unblocking_statements(
     list: &mut Vec<Statement>,
     code: &[Instruction],
     fates: &[Fate],
@@ -114,7 +115,7 @@ fn put_statements(
         ≡ list.old.items ++ statements_in blocked other code.now fates.now) }
 {
     for (at, instruction) in code.iter().enumerate() {
-        if blocked.could_end(other, at, instruction) {
+        if blocked.could_be_unblocked_by(other, at, instruction) {
             list.push(Statement {
                 thread: other,
                 instruction: at,
@@ -132,7 +133,7 @@ fn put_statements(
 /// # Errors
 ///
 /// `AllocError` where memory runs out.
-pub fn statements_of(
+pub fn unblocking_statements(
     alloc: Global,
     program: &Program,
     fates: &[Vec<Fate>],
@@ -145,7 +146,7 @@ pub fn statements_of(
     let mut list = Vec::new(alloc);
     for u in 0..program.threads() {
         let code = program.code(u);
-        put_statements(&mut list, code, fates[u as usize].as_slice(), blocked, u)?;
+        put_unblocking_statements(&mut list, code, fates[u as usize].as_slice(), blocked, u)?;
     }
     Ok(list)
 }
@@ -157,16 +158,16 @@ fn may_still_end_wait(code: &[Instruction], fates: &[Fate], blocked: Blocked, ot
     ensures { IsTrue result ↔ FindsAhead code.now fates.now blocked other }
 {
     for (at, instruction) in code.iter().enumerate() {
-        if blocked.could_end(other, at, instruction) && fates[at].is_ahead() {
+        if blocked.could_be_unblocked_by(other, at, instruction) && fates[at].is_ahead() {
             return true;
         }
     }
     false
 }
 
-/// Whether a blocked thread waits for thread `other`: whether that owns the mutex which is waited
-/// for, or may still come to a statement that could end the wait. `code` and `fates` are those of
-/// `other`.
+/// Whether a blocked thread waits for thread `other`: whether `other` owns the mutex that the
+/// blocked one waits for, or may still come to a statement that could end the wait. `code` and
+/// `fates` are those of `other`.
 pub fn waits_for(code: &[Instruction], fates: &[Fate], blocked: Blocked, other: u8) -> bool
     requires { length fates.now ≡ length code.now }
     ensures { IsTrue result ↔ FindsEdge code.now fates.now blocked other }

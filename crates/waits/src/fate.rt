@@ -35,9 +35,9 @@ impl Fate {
         matches!(self, Fate::Ahead)
     }
 
-    // What came of an instruction, as far as no step carried it out. `mark` says whether a path
-    // leads to it from where its thread is at the end.
-    fn of(mark: Mark) -> Fate
+    // What came of an instruction if no step carried it out: ahead where a path leads to it from
+    // where its thread is at the end, which either flag of `mark` says, else passed by.
+    fn from_mark(mark: Mark) -> Fate
         ensures { result ≡ fate_by mark }
     {
         if mark.may_hold || mark.may_not_hold {
@@ -47,8 +47,8 @@ impl Fate {
         }
     }
 
-    // What came of an instruction that the step at this place carries out: that it is taken there,
-    // or else in the earlier step by which it was taken already.
+    // What came of an instruction that the step at this place carries out, where `self` is what
+    // came of it up to there: it stays taken in an earlier step, or else it is taken in this one.
     fn or_taken(self, place: usize) -> Fate
         ensures { result ≡ taken_by self place }
     {
@@ -70,8 +70,9 @@ pub fn end_pc(told: &Explanation, thread: u8) -> usize
     }
 }
 
-// What came of each instruction of a code, as far as no step carried it out: whether a path leads
-// to it from the instruction of number `place`, at which the thread is at the end, or none does.
+// What came of each instruction of a code if no step carried it out: ahead where a path leads to it
+// from the instruction of number `place`, at which the thread is at the end, else passed by. A
+// `place` past the code counts as its end.
 fn fates_by_path(alloc: Global, code: &[Instruction], place: usize) -> Result<Vec<Fate>, AllocError>
     requires jumps { JumpsWithin code.now }
     requires short { length code.now < 2 ^ 32 }
@@ -80,13 +81,13 @@ fn fates_by_path(alloc: Global, code: &[Instruction], place: usize) -> Result<Ve
     let marks = path_marks(alloc, code, Watch::Nothing, place.min(code.len()), false)?;
     let mut fates = Vec::new(alloc);
     for at in 0..code.len() {
-        fates.push(Fate::of(marks[at]))?;
+        fates.push(Fate::from_mark(marks[at]))?;
     }
     Ok(fates)
 }
 
-// Marks an instruction as carried out in the step at this place, unless it is marked so for an
-// earlier step.
+// Marks an instruction as carried out in the step at this place, unless it is marked as carried out
+// already, or there is no such instruction.
 fn mark_taken(fates: &mut [Fate], instruction: usize, place: usize)
     ensures { fates.new ≡ with_taken fates.old instruction place }
 {
@@ -95,9 +96,9 @@ fn mark_taken(fates: &mut [Fate], instruction: usize, place: usize)
     }
 }
 
-// Marks the instructions that steps of a thread carried out, each with the place of the first of
-// these steps.
-fn mark_steps(fates: &mut [Fate], steps: &[Step], thread: u8)
+// Marks, of a thread's instructions, all that its steps carried out, each with the place of the
+// first step that did. `steps` are those of all threads.
+fn mark_all_taken(fates: &mut [Fate], steps: &[Step], thread: u8)
     ensures { (code : List Instruction) (from : ℕ) →
         AreFates code from steps.now thread 0 fates.old →
         AreFates code from steps.now thread (length steps.now) fates.new }
@@ -121,7 +122,7 @@ fn fates_of(
 {
     program.keeps_limits();
     let mut fates = fates_by_path(alloc, program.code(thread), end_pc(told, thread))?;
-    mark_steps(&mut fates, told.steps(), thread);
+    mark_all_taken(&mut fates, told.steps(), thread);
     Ok(fates)
 }
 

@@ -20,7 +20,7 @@ fn extend_through(rows: &mut Rows, k: u8)
 {
     let through = rows[k as usize];
     for t in 0..THREADS {
-        if rows[t].contains(k) {
+        if rows[t].has(k) {
             rows[t] = rows[t].union(through);
         }
     }
@@ -47,7 +47,7 @@ pub fn circle_of(rows: &Rows, thread: u8) -> Mask
     for u in 0..THREADS as u8 {
         circle = circle.with(
             u,
-            rows[thread as usize].contains(u) && rows[u as usize].contains(thread),
+            rows[thread as usize].has(u) && rows[u as usize].has(thread),
         );
     }
     circle

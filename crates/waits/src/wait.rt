@@ -7,7 +7,7 @@ ghost use Rattle.waits.specs.Graph.{WaitsFor, IsIn};
 ghost use Rattle.waits.specs.Waiting.{AllFates, IsLastStep, TellsWaits, circles_in, is_first_of};
 ghost use Rattle.waits.specs.inner.Rows.{lists, Fits, FindsEdge};
 
-use crate::ending::{Blocked, Statement, statements_of, waits_for};
+use crate::ending::{Blocked, Statement, unblocking_statements, waits_for};
 use crate::fate::{Fate, all_fates};
 use crate::graph::{Rows, circle_of, transitive_closure};
 use explain::{Explanation, Reason, Step};
@@ -39,9 +39,9 @@ pub struct Wait {
 }
 
 impl Wait {
-    /// Whether the thread is in no circle: whether no thread for which it waits, directly or
-    /// through others, waits so for it.
-    pub fn is_circle_free(&self) -> bool
+    /// Whether the thread is in no circle: no thread for which it waits, directly or through
+    /// others, waits for it, directly or through others.
+    pub fn is_in_no_circle(&self) -> bool
         ensures { IsTrue result ↔ (self.now.circle ≡ no_threads) }
     {
         self.circle == Mask::empty()
@@ -56,8 +56,8 @@ pub struct Waits {
 }
 
 impl Waits {
-    /// The waits of all threads that are blocked at the end of an explained schedule, also of one
-    /// that failed, and the circles of these threads.
+    /// The waits of all threads that are blocked at the end of an explained schedule, also where a
+    /// thread stopped in an error, and the circles of these threads.
     ///
     /// # Errors
     ///
@@ -75,7 +75,7 @@ impl Waits {
                     thread: t,
                     reason: blocked.reason,
                     since: last_step(told.steps(), t),
-                    statements: statements_of(alloc, program, fates.as_slice(), blocked)?,
+                    statements: unblocking_statements(alloc, program, fates.as_slice(), blocked)?,
                     on: edges[t as usize],
                     circle: circle_of(&leads, t),
                 })?;
@@ -93,7 +93,7 @@ impl Waits {
     }
 
     /// The wait of a thread; `None` where the thread isn't blocked.
-    pub fn of(&self, thread: u8) -> Option<&Wait>
+    pub fn get(&self, thread: u8) -> Option<&Wait>
         ensures thread { IfSome result (λ wait. wait.now.thread ≡ thread) }
         ensures one { IfSome result (λ wait. Contains self.now.waits.items wait.now) }
         ensures none { IfNone result (All (λ wait. wait.thread ≢ thread) self.now.waits.items) }
@@ -115,7 +115,7 @@ impl Waits {
     }
 }
 
-// The place of the last of these steps that is one of a thread; `None` where the thread took none.
+// The place of a thread's last step among these steps; `None` where none is a step of the thread.
 fn last_step(steps: &[Step], thread: u8) -> Option<usize>
     ensures { IsLastStep steps.now thread (length steps.now) result }
 {
@@ -166,14 +166,14 @@ fn is_first_of(set: Mask, thread: u8) -> bool
     ensures { result ≡ is_first_of set thread }
 {
     for u in 0..thread {
-        if set.contains(u) {
+        if set.has(u) {
             return false;
         }
     }
-    set.contains(thread)
+    set.has(thread)
 }
 
-// Each circle of these waits once, in the order of the first thread of each.
+// The circles of the threads of these waits, each once, in the order of the first thread of each.
 fn circles_of(alloc: Global, waits: &[Wait]) -> Result<Vec<Mask>, AllocError>
     ensures { IfOk result (λ v. v.items ≡ circles_in waits.now) }
 {

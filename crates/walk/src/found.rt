@@ -9,23 +9,24 @@ use prefix_list::{Prefixes, shared_len};
 use std::alloc::Global;
 use summary::{EndMemory, Summary};
 
-/// What a walk of an item found, or one walk after another. Its memory serves other walks later.
+/// What one or more walks of items found together. Its memory serves later walks.
 #[derive(Drop)]
 pub struct Found {
     /// The summary of the schedules that were tried.
     pub part: Summary,
-    /// The items that were left, in order.
+    /// The items that the walks left open, in the order of their schedules.
     pub rest: Vec<Item>,
     /// The prefixes whose last step would be one preemption too many, where they are listed.
     pub deferred: Prefixes,
-    /// Whether deferred prefixes are listed. At the last bound of a search nobody asks for them.
+    /// Whether deferred prefixes are listed; needless at a search's last bound.
     pub lists: bool,
-    // While a walk goes on, how many of its steps begin the prefix that was deferred last, too.
+    // While a walk goes on: how many first steps it has in common with the prefix that was
+    // deferred last. The list of prefixes writes only what comes after them.
     pub(crate) shared: usize,
 }
 
 impl Found {
-    /// What no walk has added to yet. Prefixes that are put off are to be listed.
+    /// An empty `Found`, to which no walk has added. Prefixes that walks defer are to be listed.
     pub fn new(alloc: Global) -> Found
         ensures part { result.part ≡ nothing }
         ensures rest { result.rest.items ≡ [] }
@@ -42,8 +43,9 @@ impl Found {
         }
     }
 
-    // Begins a walk at the node to which `steps` lead: counts what the last deferred prefix shares.
-    pub(crate) fn begin_walk(&mut self, steps: &Vec<u8>)
+    // Sets `shared` for a walk that begins after `steps`: to the length of the longest common
+    // prefix of `steps` and the prefix that was deferred last, or to 0 where none is listed.
+    pub(crate) fn set_shared(&mut self, steps: &Vec<u8>)
         ensures same { self.new ≡ record self.old { shared = self.new.shared } }
         ensures shared { IsShared steps.now.items self.new }
     {
@@ -53,8 +55,8 @@ impl Found {
         };
     }
 
-    // Forgets what was found. The memory of its end views goes to `ends`, all other memory is kept.
-    // `lists` says whether the prefixes that are put off next are to be listed.
+    // Forgets what was found, and keeps the memory for later walks; that of the end views goes to
+    // `ends`. `lists` says whether prefixes that later walks defer are to be listed.
     pub(crate) fn clear(&mut self, ends: &mut EndMemory, lists: bool)
         ensures part { self.new.part ≡ nothing }
         ensures rest { self.new.rest.items ≡ [] }

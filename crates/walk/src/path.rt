@@ -19,12 +19,12 @@ use semantics::mask::Mask;
 use std::alloc::{AllocError, Global};
 use summary::EndMemory;
 
-/// A node of the tree of schedules: its last step, who sleeps, and whose steps are still to be
-/// tried.
+/// A node of the tree of schedules.
 #[derive(Clone, Copy, Debug)]
 pub struct Node {
     /// The threads whose steps are still to be tried.
     pub todo: Mask,
+    /// The threads that sleep at the node.
     pub asleep: Mask,
     /// The thread of the last step.
     pub last: Option<u8>,
@@ -38,31 +38,32 @@ pub struct Frame {
     pub node: Node,
     /// How many steps lead to the node.
     pub steps: usize,
-    /// The state at the node, but for its values.
+    /// The state at the node, but for its values, which stand in the path's `words`.
     pub control: Control,
 }
 
 /// The steps from the start of a program, the state and the node that they lead to, and a stack of
-/// frames. The values of their states are the words, `size` for each frame.
+/// frames, whose states' values are in `words`, `size` for each.
 #[derive(Drop)]
 pub struct Path {
     pub machine: Machine,
     pub steps: Vec<u8>,
     pub node: Node,
-    /// Frames after those in use are there to be written over.
+    /// The first `depth` are in use; those after them are written over as the stack grows.
     pub frames: Vec<Frame>,
     /// How many frames are in use.
     pub depth: usize,
     pub words: Vec<i64>,
     pub size: usize,
-    /// How many of the frames lead to the item that is walked.
+    /// How many frames a walk of an item began with; it doesn't backtrack to these.
     pub base: usize,
-    /// What end views are made with.
+    /// Memory for the end views of schedules that are tried.
     pub ends: EndMemory,
 }
 
 impl Node {
-    // The node at the start of a program, to which no step leads.
+    // The node at the start of a program, to which no step leads. Whose steps from there are to be
+    // tried (`todo`) isn't set yet.
     fn root() -> Node
         ensures last { result.last ≡ None }
         ensures used { result.used ≡ 0 }
@@ -76,7 +77,8 @@ impl Node {
     }
 
     // Becomes the node after a step of a thread, where `enabled` were enabled before the step and
-    // `asleep` sleep after it.
+    // `asleep` sleep after it. Counts a preemption if the thread of the step before is another and
+    // was enabled. Whose steps from there are to be tried (`todo`) isn't set yet.
     fn step(&mut self, enabled: Mask, thread: u8, asleep: Mask)
         requires { self.old.used + 1 < 2 ^ 32 }
         ensures asleep { self.new.asleep ≡ asleep }
@@ -89,7 +91,7 @@ impl Node {
         match self.last {
             Some(last) => {
                 if last != thread {
-                    self.used += u32::from(enabled.contains(last));
+                    self.used += u32::from(enabled.has(last));
                     self.last = Some(thread);
                 }
             }
@@ -97,7 +99,7 @@ impl Node {
         }
     }
 
-    // Whether the node's preemptions have reached the bound.
+    // Whether the node has as many preemptions as the bound; false in the mode without a bound.
     pub(crate) fn is_at_bound(&self, mode: Mode) -> bool
         ensures { result ≡ at_bound mode self.now }
     {
@@ -108,8 +110,8 @@ impl Node {
     }
 }
 
-// Appends words, each 0, until there are at least `count` of them.
-fn make_words(words: &mut Vec<i64>, count: usize) -> Result<(), AllocError>
+// Appends zeros to `words`, the values of the frames' states, until it has at least `count`.
+fn grow_words(words: &mut Vec<i64>, count: usize) -> Result<(), AllocError>
     ensures there { OnOk result (count ≤ length words.new.items) }
     ensures room { length words.old.items ≤ length words.new.items }
     ensures same { (n : ℕ) → n ≤ length words.old.items
@@ -121,7 +123,7 @@ fn make_words(words: &mut Vec<i64>, count: usize) -> Result<(), AllocError>
     Ok(())
 }
 
-// Writes down that a thread took `count` steps, for which there is room.
+// Appends a run to a path's steps, which have room for it: `count` steps of one thread.
 #[inline(always)]
 fn push_run(steps: &mut Vec<u8>, thread: u8, count: u32)
     requires some { 1 ≤ count }
@@ -134,9 +136,9 @@ fn push_run(steps: &mut Vec<u8>, thread: u8, count: u32)
     }
 }
 
-// Makes a frame at this depth, to be written over, unless there is one.
+// Where the stack has no frame at the index `depth`, appends one, which the caller writes over.
 #[inline(always)]
-fn make_frame(frames: &mut Vec<Frame>, depth: usize, machine: &Machine) -> Result<(), AllocError>
+fn ensure_frame(frames: &mut Vec<Frame>, depth: usize, machine: &Machine) -> Result<(), AllocError>
     requires { depth ≤ length frames.old.items }
     ensures there { OnOk result (depth < length frames.new.items) }
     ensures room { depth ≤ length frames.new.items }
@@ -153,7 +155,7 @@ fn make_frame(frames: &mut Vec<Frame>, depth: usize, machine: &Machine) -> Resul
 }
 
 impl Path {
-    /// The path of no step, at the opening state of a program.
+    /// The path without steps, at the initial state of a program. It has no frame.
     ///
     /// # Errors
     ///
@@ -177,7 +179,8 @@ impl Path {
         })
     }
 
-    /// Pushes a frame for the path's node.
+    /// Pushes a frame of the path's node and state, to which the walk can backtrack. It is written
+    /// over an unused one, if there is one.
     ///
     /// # Errors
     ///
@@ -191,8 +194,8 @@ impl Path {
         let depth = self.depth;
         let at = depth * self.size;
         let end = at + self.size;
-        make_words(&mut self.words, end)?;
-        make_frame(&mut self.frames, depth, &self.machine)?;
+        grow_words(&mut self.words, end)?;
+        ensure_frame(&mut self.frames, depth, &self.machine)?;
         let frame = &mut self.frames[depth];
         frame.node = self.node;
         frame.steps = self.steps.len();
@@ -203,8 +206,8 @@ impl Path {
         Ok(())
     }
 
-    /// Pops the frames from this depth on, and goes back to the node of the first of them. To keep
-    /// that frame, the caller may set the depth to one more.
+    /// Pops the frames from the index `depth` on, and goes back to the node of the frame at that
+    /// index: to its state and its steps. A caller may keep that frame by raising the depth by 1.
     #[inline(always)]
     pub fn pop_to(&mut self, _program: &Program, depth: usize)
         requires path { IsPath _program.now self.old }
@@ -229,8 +232,10 @@ impl Path {
         self.depth = depth;
     }
 
-    /// Extends the path by a run of an enabled thread, after whose first step `asleep` sleep: by
-    /// one step, or more where the node after the first is at the mode's bound.
+    /// Extends the path by a run of an enabled thread, and returns the run. It is one step, after
+    /// which the threads `asleep` sleep. Where the node after it is at the mode's bound, further
+    /// steps of the thread follow, `2 * INSTRUCTIONS` in all at most, as long as it and the same
+    /// other threads are enabled: a step of another would pass the bound.
     ///
     /// # Errors
     ///
@@ -260,8 +265,8 @@ impl Path {
         Ok(run)
     }
 
-    // Goes back to the node of the last frame that is at most `count` steps from the start, and
-    // keeps the frame.
+    // Where the path has more than `count` steps, goes back to the node of the last frame that has
+    // at most `count`, and keeps that frame.
     fn rewind(&mut self, program: &Program, count: usize)
         requires path { IsPath program.now self.old }
         requires frames { 0 < self.old.depth }
@@ -282,9 +287,9 @@ impl Path {
         self.depth = depth + 1;
     }
 
-    // Replays the step of a schedule at one place, and no more: without a bound no thread is alone.
-    // Every second node gets a frame, but the last: so half the copies are saved, and to rewind
-    // costs a step or two more.
+    // Takes the step of a schedule at the index `place`, where the path has the steps before it:
+    // a run, which is one step in the mode `Reduced`. Pushes a frame of every second node but the
+    // last: that saves half the copies of states, and costs a later replay a step or two.
     fn replay_step(
         &mut self,
         program: &Program,
@@ -308,7 +313,8 @@ impl Path {
         }
     }
 
-    /// Replays a schedule: rewinds to what it shares with the steps so far, and takes the rest.
+    /// Makes the steps of a schedule the path's: goes back to steps with which the schedule begins,
+    /// and takes the others. Where the path has no frame, pushes one of its node first.
     ///
     /// # Errors
     ///

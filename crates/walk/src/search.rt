@@ -1,4 +1,4 @@
-//! The depth-first search of a walk: down into the next branch, or back to the node of a frame.
+//! The depth-first search of a walk: it takes a next step, or backtracks to the node of a frame.
 
 ghost use Rattle.std.specs.Prelude.{◌≡◌, ◌+◌, ◌-◌, ◌++◌, ◌∷◌, ◌<◌, ◌≤◌, ◌&&◌, ◌||◌, not, [], ℕ, true, false, map, IfOk, Some, OnOk, IsTrue, IsFalse, length, take, min, All};
 ghost use Rattle.guest_code.specs.declared.limits.TheConstants.{THREADS};
@@ -21,7 +21,10 @@ use semantics::mask::Mask;
 use std::alloc::{AllocError, Global};
 
 impl Found {
-    // Defers a thread's step from the node to which the first `place` steps lead: lists its prefix.
+    // Defers a thread's step from the node to which the first `place` of `steps` lead: lists the
+    // prefix that ends in that step, and notes that some schedule has more preemptions than the
+    // bound. `steps` is changed to write the prefix, and then changed back. `shared`, the number of
+    // steps that the walk has in common with the prefix deferred last, is `place` then.
     #[inline(always)]
     fn defer_one(&mut self, steps: &mut Vec<u8>, place: usize, thread: u8) -> Result<(), AllocError>
         requires place { place < length steps.old.items }
@@ -47,9 +50,10 @@ impl Found {
         Ok(())
     }
 
-    // Defers steps of the threads `past` from the node after `_steps`, after one from that node.
+    // Defers steps of the threads `past`, each past the bound, from the node after `_steps`, where
+    // the prefix deferred last ends in a step from that node, too: so only last steps are written.
     #[inline(always)]
-    fn defer_beside(&mut self, _steps: &[u8], past: Mask) -> Result<(), AllocError>
+    fn defer_siblings(&mut self, _steps: &[u8], past: Mask) -> Result<(), AllocError>
         requires shared { IsShared _steps.now self.old }
         requires here { self.old.shared ≡ length _steps.now }
         ensures same { self.new ≡ record self.old { deferred = self.new.deferred } }
@@ -65,7 +69,8 @@ impl Found {
         Ok(())
     }
 
-    // Defers steps of threads `past`, whose least is `first`, from the node after `place` steps.
+    // Defers steps of the threads `past`, whose least is `first`, from the node to which the first
+    // `place` of `steps` lead: lists the prefixes that end in these steps, each past the bound.
     #[inline(always)]
     fn defer_all(
         &mut self,
@@ -88,11 +93,12 @@ impl Found {
         ensures shared { OnOk result (IsShared (take place steps.old.items) self.new) }
     {
         self.defer_one(steps, place, first)?;
-        self.defer_beside(&steps[..place], without_first(past, first))
+        self.defer_siblings(&steps[..place], without_first(past, first))
     }
 
-    // Defers steps of the threads `past` from the node to which the first `place` steps lead: lists
-    // their prefixes, or only notes that there is one. Often there is none.
+    // Defers steps of the threads `past`, if any, each past the bound, from the node to which the
+    // first `place` of `steps` lead: notes that some schedule has more preemptions than the bound,
+    // and lists the prefixes that end in these steps, unless deferred prefixes aren't listed.
     #[inline(always)]
     pub(crate) fn defer(
         &mut self,
@@ -120,9 +126,10 @@ impl Found {
         self.defer_all(steps, place, past, first)
     }
 
-    // The place to stop at, where steps are to be deferred at each place from the one before
-    // `second` to the one before `end`: where deferred steps are only noted, the first is enough.
-    fn end_place(&self, second: usize, end: usize) -> usize
+    // Before which place to stop, where steps are deferred at a first place and at those from
+    // `second` on before `end`: at `end` where deferred prefixes are listed. Else it is only noted
+    // that there are some, for which the first is enough: at `second`, or `end` if that is less.
+    fn deferral_end(&self, second: usize, end: usize) -> usize
         ensures few { result ≤ end }
         ensures listed { self.now.lists ≡ true → result ≡ end }
         ensures noted { self.now.lists ≡ false → result ≡ min second end }
@@ -130,7 +137,7 @@ impl Found {
         if self.lists { end } else { second.min(end) }
     }
 
-    // Whether fewer schedules were tried than the limit.
+    // Whether fewer schedules were tried than `limit`.
     fn is_below_limit(&self, limit: u64) -> bool
         ensures below { IsTrue result → self.now.part.tried < limit }
         ensures full { IsFalse result → limit ≤ self.now.part.tried }
@@ -138,15 +145,17 @@ impl Found {
         self.part.tried() < limit
     }
 
-    // Notes that a walk has backtracked to a node that `steps` steps lead to.
-    fn backtrack(&mut self, steps: usize)
+    // Notes that the walk has backtracked to the node after its first `steps` steps: lowers
+    // `shared`, the number of first steps that the walk has in common with the prefix that was
+    // deferred last.
+    fn lower_shared(&mut self, steps: usize)
         ensures { self.new ≡ record self.old { shared = min self.old.shared steps } }
     {
         self.shared = self.shared.min(steps);
     }
 }
 
-// A set without `first`, its least member.
+// The set without `first`, which is its least member.
 fn without_first(set: Mask, first: u8) -> Mask
     requires first { members_from set 0 ≡ first ∷ members_from set (first + 1) }
     requires least { (u : ℕ) → u < first → has set u ≡ false }
@@ -157,7 +166,8 @@ fn without_first(set: Mask, first: u8) -> Mask
 }
 
 impl Node {
-    // Expands the node: kept steps of `enabled` are still to be tried. None passes the bound.
+    // Sets whose steps from the node are to be tried: those of the threads in `enabled`, in the
+    // mode `Reduced` without those that sleep. No step passes the bound, as the caller makes sure.
     fn expand(&mut self, enabled: Mask, mode: Mode)
         requires { (t : ℕ) → (has enabled t && is_past_at mode enabled self.old t) ≡ false }
         ensures kept { (t : ℕ) → has self.new.todo t
@@ -170,16 +180,19 @@ impl Node {
         }
     }
 
-    // Whether any other thread's step passes the bound: the node is at it, and `thread` enabled.
+    // Whether `thread`, the one of the last step, alone may step within the bound: the node is at
+    // the bound, and `thread` is enabled, so that a step of another thread is one preemption too
+    // many.
     fn is_alone(&self, enabled: Mask, mode: Mode, thread: u8) -> bool
         ensures { result ≡ (at_bound mode self.now && has enabled thread) }
     {
-        self.is_at_bound(mode) && enabled.contains(thread)
+        self.is_at_bound(mode) && enabled.has(thread)
     }
 }
 
 impl Path {
-    // The threads that sleep after a step of an enabled thread from the node: within a bound none.
+    // The threads that sleep after a step of an enabled thread from the node; none in a mode with a
+    // bound, where sleep sets aren't used.
     #[inline(always)]
     fn sleepers(&self, program: &Program, mode: Mode, thread: u8) -> Mask
         requires path { IsPath program.now self.now }
@@ -189,12 +202,15 @@ impl Path {
     {
         match mode {
             Mode::Bounded(_) => Mask::empty(),
-            Mode::Reduced => self.machine.sleepers(program, self.node.asleep, thread),
+            Mode::Reduced => self
+                .machine
+                .sleep_set_after(program, self.node.asleep, thread),
         }
     }
 
-    // Expands the node: its children are open then. Where it has none the schedule is complete, and
-    // is tried. No step from the node passes the bound.
+    // Sets whose steps from the node are to be tried. Where no thread is enabled, the schedule to
+    // the node is complete: it is added to what was tried. No step passes the bound, as the caller
+    // makes sure.
     #[inline(always)]
     fn expand(
         &mut self,
@@ -234,10 +250,11 @@ impl Path {
         }
     }
 
-    // Defers the steps of all threads but that of the last step, where that one alone may go on
-    // within the bound. Answers whether it alone may.
+    // Where `thread`, that of the last step, alone may step within the bound, defers the steps of
+    // the other enabled threads. Answers whether it alone may. Its step is pushed as the place for
+    // theirs, and popped again.
     #[inline(always)]
-    fn defer_others(
+    fn defer_others_if_alone(
         &mut self,
         found: &mut Found,
         _item: &Item,
@@ -270,9 +287,11 @@ impl Path {
         Ok(true)
     }
 
-    // Runs a thread into its open child. Other threads' steps are deferred at the nodes in between.
+    // Takes a run of a thread whose step from the node is still to be tried: that step, and, if it
+    // leads to the bound, further ones, as long as the same threads are enabled. From the nodes
+    // within the run, steps of other threads would pass the bound: they are deferred.
     #[inline(always)]
-    fn run_once(
+    fn take_run(
         &mut self,
         found: &mut Found,
         item: &Item,
@@ -297,14 +316,15 @@ impl Path {
         let from = self.steps.len();
         let run = self.extend(program, mode, thread, asleep)?;
         let others = run.among.with(thread, false);
-        let last = found.end_place(from + 2, self.steps.len());
-        for place in from + 1..last {
+        let end = found.deferral_end(from + 2, self.steps.len());
+        for place in from + 1..end {
             found.defer(&mut self.steps, place, others)?;
         }
         Ok(())
     }
 
-    // Runs a thread into its open child, and on while it alone may go on within the bound.
+    // Takes runs of a thread whose step from the node is still to be tried: one, and further ones
+    // as long as it alone may step within the bound, where the steps of others are deferred.
     #[inline(always)]
     fn run(
         &mut self,
@@ -326,14 +346,20 @@ impl Path {
     {
         let mut going = true;
         while going {
-            self.run_once(found, item, mode, thread)?;
-            going = self.defer_others(found, item, mode, thread)?;
+            self.take_run(found, item, mode, thread)?;
+            going = self.defer_others_if_alone(found, item, mode, thread)?;
         }
         Ok(())
     }
 
-    // Runs the thread of the last step, where it alone may go on within the bound.
-    fn run_last(&mut self, found: &mut Found, item: &Item, mode: Mode) -> Result<(), AllocError>
+    // Takes runs of the thread of the path's last step, as long as it alone may step within the
+    // bound, and defers other threads' steps. Does nothing where the path has no step.
+    fn run_last_thread_if_alone(
+        &mut self,
+        found: &mut Found,
+        item: &Item,
+        mode: Mode,
+    ) -> Result<(), AllocError>
         requires search { Searches mode item.now self.old found.old
             (open_here mode item.now.program self.old) }
         ensures path { IsPath item.now.program self.new }
@@ -346,15 +372,15 @@ impl Path {
         let Some(thread) = self.node.last else {
             return Ok(());
         };
-        if self.defer_others(found, item, mode, thread)? {
+        if self.defer_others_if_alone(found, item, mode, thread)? {
             self.run(found, item, mode, thread)?;
         }
         Ok(())
     }
 
-    // Pushes a frame for the node, unless nothing is to be tried there.
+    // Pushes a frame of the node, to backtrack to, if a further step from it is to be tried.
     #[inline(always)]
-    fn push_if_open(&mut self, program: &Program) -> Result<(), AllocError>
+    fn push_frame_if_open(&mut self, program: &Program) -> Result<(), AllocError>
         requires { IsPlace program.now self.old }
         ensures path { IsPath program.now self.new }
         ensures place { OnOk result (IsPlace program.now self.new) }
@@ -366,7 +392,9 @@ impl Path {
         }
     }
 
-    // Takes the branch to a thread's open child, and expands the node that the run comes to.
+    // Takes runs of a thread whose step from the node was to be tried. Before, pushes a frame of
+    // the node, if further steps from it are to be tried. After, sets whose steps from the new node
+    // are to be tried; where no thread is enabled there, adds the schedule to what was tried.
     #[inline(always)]
     fn take_branch(
         &mut self,
@@ -390,12 +418,13 @@ impl Path {
         ensures more { OnOk result (is_empty (members_from self.new.node.todo 0) ≡ false →
             found.new.part.tried ≡ found.old.part.tried) }
     {
-        self.push_if_open(item.program())?;
+        self.push_frame_if_open(item.program())?;
         self.run(found, item, mode, thread)?;
         self.expand(alloc, found, item, mode)
     }
 
-    // Pops the last frame. False where that leads to the item: nothing below the item is open.
+    // Pops the last frame, and goes back to its node. False where the path has only the frames that
+    // it had when the walk began: then none is popped, and nothing of the item is open any more.
     #[inline(always)]
     fn pop_frame(&mut self, program: &Program, _mode: Mode) -> bool
         requires place { IsPlace program.now self.old }
@@ -419,7 +448,8 @@ impl Path {
         true
     }
 
-    // Backtracks to the node of the last frame. False where that node is above the item's own.
+    // Backtracks to the node of the last frame, and notes it in `found`. False where the path has
+    // only the frames that it had when the walk began: then nothing of the item is open any more.
     #[inline(always)]
     fn backtrack(&mut self, found: &mut Found, item: &Item, mode: Mode) -> bool
         requires search { Searches mode item.now self.old found.old
@@ -436,12 +466,12 @@ impl Path {
         ensures tried { found.new.part.tried ≡ found.old.part.tried }
     {
         let more = self.pop_frame(item.program(), mode);
-        found.backtrack(self.steps.len());
+        found.lower_shared(self.steps.len());
         more
     }
 
-    // Takes the branches to open children, and backtracks where there is none, until as many
-    // schedules as the limit are tried or nothing is open.
+    // The search in one mode: takes steps that are still to be tried, depth first, and backtracks
+    // where a node has none, until `found` counts `limit` schedules or none of the item is left.
     #[inline(always)]
     fn search_in(
         &mut self,
@@ -475,7 +505,8 @@ impl Path {
         Ok(())
     }
 
-    // Searches as `search_in` does, by a loop for each mode: within it the compiler knows the mode.
+    // Takes steps that are still to be tried, depth first, until `found` counts `limit` schedules
+    // or none of the item is left: by `search_in`, which is compiled to a loop for each mode.
     #[inline(never)]
     fn search(
         &mut self,
@@ -504,8 +535,9 @@ impl Path {
         }
     }
 
-    // Appends the next open child's item to the rest, or pops a frame. False where nothing is open.
-    fn drain_one(
+    // Appends the item of the next step that is still to be tried from the node to `rest`, or pops
+    // a frame where there is no such step. False where nothing of the walked item is open any more.
+    fn drain_or_pop(
         &mut self,
         alloc: Global,
         item: &Item,
@@ -537,7 +569,8 @@ impl Path {
         }
     }
 
-    // Appends the items of all open children to the rest, in order.
+    // Appends items of all that is still open of the walked item to `rest`, in the order of their
+    // schedules: an item for each step that is still to be tried, from the node or from a frame's.
     fn drain(
         &mut self,
         alloc: Global,
@@ -553,12 +586,13 @@ impl Path {
     {
         let mut going = true;
         while going {
-            going = self.drain_one(alloc, item, mode, rest)?;
+            going = self.drain_or_pop(alloc, item, mode, rest)?;
         }
         Ok(())
     }
 
-    // Goes to the node of an item's prefix, at which the walk begins.
+    // Goes to the node of an item's prefix, at which the walk begins: the item's mask sleeps there,
+    // no step is to be tried yet, and the walk won't backtrack to the frames that there are.
     fn seek(&mut self, item: &Item) -> Result<(), AllocError>
         requires { IsPath item.now.program self.old }
         ensures path { IsPath item.now.program self.new }
@@ -574,7 +608,7 @@ impl Path {
         Ok(())
     }
 
-    // Whether the node has more preemptions than the bound.
+    // Whether the node has more preemptions than the bound; false in the mode without a bound.
     fn is_past_bound(&self, mode: Mode) -> bool
         ensures { result ≡ is_past_here mode self.now.node }
     {
@@ -584,7 +618,14 @@ impl Path {
         }
     }
 
-    /// Tries the first schedules of an item, up to a quota, and adds what is found to `found`.
+    /// Tries the first schedules of an item, at most `quota`, and adds them, the items that it
+    /// leaves and the prefixes that it defers to `found`. Where the item's own prefix has more
+    /// preemptions than the bound, only notes that some schedule has. `ends` is called for its
+    /// contract alone.
+    ///
+    /// # Errors
+    ///
+    /// `AllocError` where memory runs out.
     pub fn walk(
         &mut self,
         alloc: Global,
@@ -606,8 +647,8 @@ impl Path {
             found.part.set_beyond();
             return Ok(());
         }
-        found.begin_walk(&self.steps);
-        self.run_last(found, item, mode)?;
+        found.set_shared(&self.steps);
+        self.run_last_thread_if_alone(found, item, mode)?;
         self.expand(alloc, found, item, mode)?;
         self.search(alloc, found, item, mode, limit)?;
         self.drain(alloc, item, mode, &mut found.rest)

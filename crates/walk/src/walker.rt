@@ -16,8 +16,8 @@ use std::alloc::{AllocError, Global};
 use std::marker::Model;
 use std::sync::Arc;
 
-/// What walks items of one program, and is kept from one item to the next: the next walk begins
-/// where the last one ended, and goes back no further than to what the two prefixes share.
+/// Walks items of one program, and is kept from one item to the next: each walk begins where the
+/// one before ended, and goes back only to steps that the two prefixes have in common.
 #[derive(Drop)]
 pub struct Walker {
     program: Arc<Program>,
@@ -37,7 +37,7 @@ impl Model for Walker {
 }
 
 impl Walker {
-    /// A walker of a program.
+    /// A walker of items of a program, at its initial state.
     ///
     /// # Errors
     ///
@@ -49,8 +49,8 @@ impl Walker {
         Ok(Walker { program, path })
     }
 
-    /// Forgets what walks found, whose memory serves other walks. `lists` says whether the prefixes
-    /// that those put off are to be listed.
+    /// Forgets what walks found, and keeps the memory for later walks. `lists` says whether
+    /// prefixes that later walks defer are to be listed.
     pub fn clear(&mut self, found: &mut Found, lists: bool)
         ensures program { self.new ≡ self.old }
         ensures part { found.new.part ≡ nothing }
@@ -62,15 +62,15 @@ impl Walker {
     }
 
     /// Tries the first `quota` schedules of an item of the walker's program in a mode, or all where
-    /// there are fewer, leaves the others, and adds what is found to what other walks found; see
-    /// [`walk`]. The schedules that all walks tried, with the quota of this one, are fewer than the
-    /// greatest count.
+    /// there are fewer, as [`walk`] does. Adds what it tried, left and deferred to `found`, which
+    /// may have what other walks found. The number of schedules that `found` counts and `quota`
+    /// have to add up to less than 2^64 - 1.
     ///
     /// # Errors
     ///
     /// `AllocError` where memory runs out. The walker can be used again then; of what was found
     /// some may be lost.
-    pub fn walk_on(
+    pub fn walk_into(
         &mut self,
         alloc: Global,
         found: &mut Found,
@@ -88,9 +88,9 @@ impl Walker {
     }
 }
 
-/// Tries the first `quota` schedules of an item in a mode, or all where there are fewer: what is
-/// left is empty where fewer were tried. Where the item's own prefix has more preemptions than the
-/// bound, nothing is tried, and nothing is left.
+/// Tries the first `quota` schedules of an item in a mode, or all where there are fewer: then no
+/// item is left. Where the item's own prefix has more preemptions than the bound, nothing is tried,
+/// and nothing is left.
 ///
 /// Trying the schedules within a bound of preemptions, and raising the bound, is the idea of
 /// Musuvathi and Qadeer, "Iterative Context Bounding for Systematic Testing of Multithreaded

@@ -18,7 +18,7 @@ struct Drawer {
     refused: bool,
 }
 
-/// Draws numbers from a board until all are drawn, or memory ran out.
+// Draws numbers for a worker until none is left, or memory runs out, which the worker notes.
 fn draw(board: &Board, worker: &mut Drawer)
     requires { worker.old.seat.board ≡ board.now.id }
     ensures { worker.new.seat.board ≡ worker.old.seat.board }
@@ -34,8 +34,8 @@ fn draw(board: &Board, worker: &mut Drawer)
     }
 }
 
-/// A drawer that has drawn nothing for each of the seats.
-fn workers(alloc: Global, board: &Board, seats: Vec<Seat>) -> Result<Vec<Drawer>, AllocError>
+// A worker at each of the seats, which has drawn nothing.
+fn workers_at(alloc: Global, board: &Board, seats: Vec<Seat>) -> Result<Vec<Drawer>, AllocError>
     requires { All (λ s. s.board ≡ board.now.id) seats.items }
     ensures all { IfOk result (λ v. All (λ w. w.seat.board ≡ board.now.id) v.items) }
     ensures len { IfOk result (λ v. vec_len v ≡ vec_len seats) }
@@ -51,8 +51,8 @@ fn workers(alloc: Global, board: &Board, seats: Vec<Seat>) -> Result<Vec<Drawer>
     Ok(workers)
 }
 
-/// Lets all workers draw from a board, each in a thread of its own.
-fn draw_all<R: Threads + Sync>(rt: &R, board: &Board, workers: &mut Vec<Drawer>)
+// Lets the workers draw from a board until all numbers are drawn, in at most 16 threads at once.
+fn draw_in_threads<R: Threads + Sync>(rt: &R, board: &Board, workers: &mut Vec<Drawer>)
     requires { All (λ w. w.seat.board ≡ board.now.id) workers.old.items }
     ensures all { All (λ w. w.seat.board ≡ board.now.id) workers.new.items }
     ensures len { vec_len workers.new ≡ vec_len workers.old }
@@ -60,7 +60,7 @@ fn draw_all<R: Threads + Sync>(rt: &R, board: &Board, workers: &mut Vec<Drawer>)
     thread::for_each_mut(rt, workers.as_mut_slice(), 16, &|_, w| draw(board, w));
 }
 
-/// The seats of the workers, and all numbers that the workers drew, in rising order.
+// The seats of the workers, and all numbers that the workers drew, in rising order.
 fn seats_and_drawn(
     alloc: Global,
     board: &Board,
@@ -85,12 +85,13 @@ fn seats_and_drawn(
     Ok((seats, drawn))
 }
 
+// Four threads, each with a seat, draw each number from 0 to 999 once. None of them tells a number.
 #[test]
 fn four_threads_draw_each_number_once(rt: HostRuntime) -> Result<(), Fail> {
     let alloc = rt.alloc();
     let (board, seats) = Board::new(alloc, 1000, 4)?;
-    let mut workers = workers(alloc, &board, seats)?;
-    draw_all(&rt, &board, &mut workers);
+    let mut workers = workers_at(alloc, &board, seats)?;
+    draw_in_threads(&rt, &board, &mut workers);
     let (seats, drawn) = seats_and_drawn(alloc, &board, workers)?;
     assert!(rt; drawn.len() == 1000);
     assert!(rt; drawn.iter().zip(0..1000).all(|(k, wanted)| *k == wanted));
@@ -100,6 +101,7 @@ fn four_threads_draw_each_number_once(rt: HostRuntime) -> Result<(), Fail> {
     Ok(())
 }
 
+// A board of no numbers with one seat: each draw is answered `None`, and none is counted.
 #[test]
 fn an_empty_board_has_no_number(rt: HostRuntime) -> Result<(), Fail> {
     let (board, mut seats) = Board::new(rt.alloc(), 0, 1)?;
@@ -109,6 +111,7 @@ fn an_empty_board_has_no_number(rt: HostRuntime) -> Result<(), Fail> {
     Ok(())
 }
 
+// A board of five numbers with one seat: the first two draws get 0 and 1, and two are counted.
 #[test]
 fn a_seat_draws_twice(rt: HostRuntime) -> Result<(), Fail> {
     let (board, mut seats) = Board::new(rt.alloc(), 5, 1)?;
@@ -118,7 +121,7 @@ fn a_seat_draws_twice(rt: HostRuntime) -> Result<(), Fail> {
     Ok(())
 }
 
-/// Tells a board a number by the seat at this place.
+// Tells a board the number `k` by the seat with this index.
 fn tell_number(board: &Board, seats: &mut Vec<Seat>, seat: usize, k: u64)
     requires some_seat { seat < vec_len seats.old }
     requires board { All (λ s. s.board ≡ board.now.id) seats.old.items }
@@ -128,7 +131,7 @@ fn tell_number(board: &Board, seats: &mut Vec<Seat>, seat: usize, k: u64)
     board.tell(&mut seats[seat], k);
 }
 
-/// What a board answers the seat at this place as the least number that it was told.
+// The least number that a board was told, or `NONE_TOLD`, as it answers the seat with this index.
 fn least_told(board: &Board, seats: &mut Vec<Seat>, seat: usize) -> u64
     requires some_seat { seat < vec_len seats.old }
     requires board { All (λ s. s.board ≡ board.now.id) seats.old.items }
@@ -138,6 +141,8 @@ fn least_told(board: &Board, seats: &mut Vec<Seat>, seat: usize) -> u64
     board.least(&mut seats[seat])
 }
 
+// A board with two seats: before any is told, no number is the least. Seat 0 tells 3, then seat 1
+// tells 7; the least told is 3 after each.
 #[test]
 fn the_least_number_told_is_answered(rt: HostRuntime) -> Result<(), Fail> {
     let (board, mut seats) = Board::new(rt.alloc(), 5, 2)?;

@@ -6,7 +6,7 @@ use std::process::Abort;
 use std::test::*;
 use summary::{EndHints, EndMemory, Summary};
 
-/// Adds a schedule of this kind to a summary, with these values of the variables in its end.
+// Adds a schedule to a summary: its steps, how it ended, and the variables' values in the end.
 fn add_schedule(
     alloc: Global,
     summary: &mut Summary,
@@ -18,7 +18,7 @@ fn add_schedule(
     Ok(summary.add(alloc, &mut memory, schedule, kind, values)?)
 }
 
-/// A summary of two schedules: one that is done, and one that failed.
+// A summary of two schedules: `0,1` is done, with the variable at 2; `1,0` failed, with it at 1.
 fn done_and_failed(alloc: Global) -> Result<Summary, Fail> {
     let mut summary = Summary::empty(alloc);
     add_schedule(alloc, &mut summary, &[0, 1], Kind::Done, &[2])?;
@@ -26,7 +26,7 @@ fn done_and_failed(alloc: Global) -> Result<Summary, Fail> {
     Ok(summary)
 }
 
-/// A summary of a schedule that is done and one that got stuck, with others beyond the bound.
+// A summary of the schedules `0,0`, stuck at 1, and `0,2`, done at 2; some are beyond the bound.
 fn done_and_stuck(alloc: Global) -> Result<Summary, Fail> {
     let mut summary = Summary::empty(alloc);
     add_schedule(alloc, &mut summary, &[0, 0], Kind::Stuck, &[1])?;
@@ -45,25 +45,27 @@ pub fn summary_line(alloc: Global, summary: &Summary) -> Result<String, Fail> {
         summary.beyond(),
         summary.first_bad()
     )?;
-    add_ends(&mut line, summary.ends())?;
+    push_ends(&mut line, summary.ends())?;
     Ok(line)
 }
 
-/// Adds end views to a line: of each, how the schedules ended and with which variables.
-fn add_ends(line: &mut String, ends: &[EndView]) -> Result<(), Fail> {
+// Appends end views to a line: of each, how the schedules ended and with which variables.
+fn push_ends(line: &mut String, ends: &[EndView]) -> Result<(), Fail> {
     for end in ends {
         write!(line, " {:?} {:?}", end.kind(), end.vars())?;
     }
     Ok(())
 }
 
-/// Compares the line of a summary.
+// Checks that the line of a summary, as `summary_line` has it, is `want`.
 fn check_sum(rt: &(impl Abort + Alloc<A = Global>), sum: &Summary, want: &str) -> Result<(), Fail> {
     let line = summary_line(rt.alloc(), sum)?;
     assert_eq!(rt; line.as_str(), want);
     Ok(())
 }
 
+// A done schedule and a failed one: 2 tried, 1 failed, 0 stuck, none beyond the bound; the first
+// bad schedule; the two end views.
 #[test]
 fn schedules_are_counted(rt: HostRuntime) -> Result<(), Fail> {
     let summary = done_and_failed(rt.alloc())?;
@@ -78,6 +80,8 @@ fn schedules_are_counted(rt: HostRuntime) -> Result<(), Fail> {
 /// once.
 const TOGETHER: &str = "4 1 1 true Some([0, 0]) Done [2] Failed [1] Stuck [1]";
 
+// Joins a summary of a done and a failed schedule with one of a stuck and a done schedule. The line
+// of all four is `TOGETHER`.
 #[test]
 fn summaries_are_joined(rt: HostRuntime) -> Result<(), Fail> {
     let alloc = rt.alloc();
@@ -85,6 +89,7 @@ fn summaries_are_joined(rt: HostRuntime) -> Result<(), Fail> {
     check_sum(&rt, &joined, TOGETHER)
 }
 
+// `join_in` makes in place what `join` makes of two summaries of two schedules each: `TOGETHER`.
 #[test]
 fn a_summary_is_joined_in(rt: HostRuntime) -> Result<(), Fail> {
     let alloc = rt.alloc();
@@ -94,6 +99,7 @@ fn a_summary_is_joined_in(rt: HostRuntime) -> Result<(), Fail> {
     check_sum(&rt, &summary, TOGETHER)
 }
 
+// The copy of a summary of a done and a failed schedule has the line of that summary.
 #[test]
 fn a_copy_is_equal(rt: HostRuntime) -> Result<(), Fail> {
     let alloc = rt.alloc();
@@ -101,7 +107,7 @@ fn a_copy_is_equal(rt: HostRuntime) -> Result<(), Fail> {
     check_sum(&rt, &copy, "2 1 0 false Some([1, 0]) Done [2] Failed [1]")
 }
 
-/// A summary that is used again, for one schedule.
+// A summary of a stuck and a done schedule that was cleared, and then got the done schedule `1`.
 fn reused_summary(alloc: Global) -> Result<Summary, Fail> {
     let mut summary = done_and_stuck(alloc)?;
     summary.clear(&mut EndMemory::new(alloc));
@@ -109,6 +115,7 @@ fn reused_summary(alloc: Global) -> Result<Summary, Fail> {
     Ok(summary)
 }
 
+// A summary that got one done schedule after `clear`: 1 tried, none bad or beyond, one end view.
 #[test]
 fn a_cleared_summary_begins_anew(rt: HostRuntime) -> Result<(), Fail> {
     let summary = reused_summary(rt.alloc())?;

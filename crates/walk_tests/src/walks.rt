@@ -50,18 +50,18 @@ pub fn root_of(alloc: Global, text: &str) -> Result<Item, Fail> {
     Ok(Item::root(alloc, program_of(alloc, text)?)?)
 }
 
-/// What the walk of an item finds, in one line.
+// What the walk of an item in a mode, with the greatest quota, finds, as a line of `summary_line`.
 fn walk_line(alloc: Global, item: &Item, mode: Mode) -> Result<String, Fail> {
     summary_line(alloc, walk(alloc, item, mode, u32::MAX)?.part())
 }
 
-/// What the walk of all schedules of a text's program finds, in one line.
+// What the walk of all schedules of a text's program finds in a mode, as a line of `summary_line`.
 fn text_walk_line(alloc: Global, text: &str, mode: Mode) -> Result<String, Fail> {
     walk_line(alloc, &root_of(alloc, text)?, mode)
 }
 
-/// What a walk of a text's program counts up to a quota: the schedules that it tried, those of them
-/// that are stuck, the items that it leaves and the prefixes that it puts off.
+// Walks all schedules of a text's program in a mode, up to `quota` of them. Answers how many it
+// tried, how many of them got stuck, how many items it left, and how many prefixes it deferred.
 fn walk_counts(
     alloc: Global,
     text: &str,
@@ -81,7 +81,8 @@ fn walk_counts(
     ))
 }
 
-/// Compares what the walk of all schedules of a text's program finds.
+// Checks that the walk of all schedules of a text's program in a mode finds what `want` says:
+// tried, failed, stuck, whether some are beyond the bound, the first bad schedule, the end views.
 fn check_walk(
     rt: &(impl Abort + Alloc<A = Global>),
     text: &str,

@@ -44,7 +44,8 @@ fn files_arg<'a>(alloc: Global) -> Arg<'a> {
         "The guest programs; a folder stands for the files in it, and in its folders, that end in `.guest`")
 }
 
-// The command `name` on guest programs, which the argument `file` names; `about` says what it does.
+// The command `name` on guest programs, which the argument `file` names. Its help has `about`, what
+// it does, and ends with `HELP_END`.
 fn guest_command<'a>(
     alloc: Global,
     name: &'a str,
@@ -57,7 +58,7 @@ fn guest_command<'a>(
         .arg(file)
 }
 
-// The argument `--workers`: how many threads a search has, from 1 to `WORKERS`.
+// The argument `--workers`: how many threads a search works with, from 1 to `WORKERS`.
 fn workers_arg<'a>(alloc: Global) -> Arg<'a> {
     let workers = arg!(in alloc; --workers <W> "How many threads work [default: 1]");
     workers.value_parser(value_parser!(u32).range(1..=i64::from(WORKERS)))
@@ -103,9 +104,9 @@ fn search_command<'a>(
 }
 
 // A command that searches, with `--trace` and `--under` added to its arguments. What `--under`
-// prints is a part of a search, for `join`: no trace goes with it, and nothing may be left out of
-// it, as `--quick` does.
-fn with_report_args<'a>(alloc: Global, search: Command<'a>) -> Result<Command<'a>, AllocError> {
+// prints is parts of a search, for `join`: it conflicts with `--trace`, and with `--quick`, which
+// leaves schedules out.
+fn with_trace_and_under<'a>(alloc: Global, search: Command<'a>) -> Result<Command<'a>, AllocError> {
     let under = arg!(in alloc; --under <PREFIX>
         "Run the schedules that begin with this one, and print a line a bound for `join`");
     search
@@ -118,16 +119,16 @@ fn with_report_args<'a>(alloc: Global, search: Command<'a>) -> Result<Command<'a
 fn explore_command<'a>(alloc: Global) -> Result<Command<'a>, AllocError> {
     let about = "Runs a guest program under all schedules, those with fewest preemptions first";
     let search = search_command(alloc, "explore", about)?;
-    with_report_args(alloc, search.arg(bound_arg(alloc))?)
+    with_trace_and_under(alloc, search.arg(bound_arg(alloc))?)
 }
 
 // The command `unbounded`: a search without a bound.
 fn unbounded_command<'a>(alloc: Global) -> Result<Command<'a>, AllocError> {
     let about = "Runs a guest program under all schedules that sleep sets leave";
-    with_report_args(alloc, search_command(alloc, "unbounded", about)?)
+    with_trace_and_under(alloc, search_command(alloc, "unbounded", about)?)
 }
 
-// The command `replay`: the trace of one schedule.
+// The command `replay`: the trace of one schedule, the empty one where none is given.
 fn replay_command<'a>(alloc: Global) -> Result<Command<'a>, AllocError> {
     let about = "Runs one schedule of a guest program and prints its trace";
     let schedule = arg!(in alloc; [SCHEDULE]
@@ -156,12 +157,13 @@ fn explain_schedule_command<'a>(alloc: Global) -> Result<Command<'a>, AllocError
         .arg(arg!(in alloc; --unbounded "Search without a bound").conflicts_with("bound")?)
 }
 
-// The command `explain` with all its arguments. Only an explanation as text has a width and folds
-// steps, so the arguments for those conflict with `--html` and `--json`.
+// The command `explain` with all its arguments. Only an explanation as text has a width, and may
+// show several steps in one row, so the arguments for that conflict with `--html` and `--json`.
+// No schedule has more than 32,768 steps, and the text's lines have from 40 to 1,000 columns.
 fn explain_command<'a>(alloc: Global) -> Result<Command<'a>, AllocError> {
     let all = arg!(in alloc; --all "Show each step, however many");
     let steps = arg!(in alloc; --steps <N>
-        "Show each step where there are at most so many, else fold [default: 40]");
+        "Show each step where there are at most N, else fold [default: 40]");
     let width = arg!(in alloc; --width <N> "The columns of a line, at most [default: 100]");
     let steps = steps.value_parser(value_parser!(u32).range(0..=32_768));
     let width = width.value_parser(value_parser!(u32).range(40..=1000));
@@ -174,7 +176,8 @@ fn explain_command<'a>(alloc: Global) -> Result<Command<'a>, AllocError> {
         .arg(arg!(in alloc; --json "Print JSON"))
 }
 
-// The command `check`: what is wrong or odd about guest programs.
+// The command `check`: what is wrong or odd about guest programs. Remarks and a limit of schedules
+// need `--deep`.
 fn check_command<'a>(alloc: Global) -> Result<Command<'a>, AllocError> {
     let about = "Says what is wrong or odd about guest programs, and searches nothing";
     let short = arg!(in alloc; --short "Print a line for each refusal and each warning");
@@ -193,7 +196,7 @@ fn check_command<'a>(alloc: Global) -> Result<Command<'a>, AllocError> {
         .arg(depth.requires_arg("deep")?)
 }
 
-// The command `suite`: searches of many guest programs, compared with what each expects of itself.
+// The command `suite`: searches of many guest programs, each compared with what its file expects.
 fn suite_command<'a>(alloc: Global) -> Result<Command<'a>, AllocError> {
     let about = "Searches many guest programs, and compares what each expects of itself";
     guest_command(alloc, "suite", about, files_arg(alloc))?
@@ -204,7 +207,7 @@ fn suite_command<'a>(alloc: Global) -> Result<Command<'a>, AllocError> {
         .arg(arg!(in alloc; --json "Print an object a line instead of a table"))
 }
 
-// The command `verify`: whether a guest program is right.
+// The command `verify`: whether a guest program is right, that is, none of its schedules is bad.
 fn verify_command<'a>(alloc: Global) -> Result<Command<'a>, AllocError> {
     let about =
         "Says whether a guest program is right, up to how many preemptions it is, or why not";
@@ -217,7 +220,7 @@ fn verify_command<'a>(alloc: Global) -> Result<Command<'a>, AllocError> {
 fn prefixes_command<'a>(alloc: Global) -> Result<Command<'a>, AllocError> {
     let about = "Lists beginnings of schedules: each schedule begins with exactly one of them";
     let at_least = arg!(in alloc; --"at-least" <N>
-        "List at least so many, where there are ever so many [default: 64]");
+        "List at least N, or all where there are fewer [default: 64]");
     guest_command(alloc, "prefixes", about, file_arg(alloc))?
         .arg(at_least.value_parser(value_parser!(u32).range(1..=i64::from(MAX_PREFIXES))))?
         .arg(arg!(in alloc; --unbounded "List those that a search without a bound enters"))

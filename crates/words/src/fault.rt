@@ -24,7 +24,8 @@ pub enum WordsFault {
 }
 
 impl WordsFault {
-    /// The status that the program ends with: 2 for what the user gave, 4 for memory.
+    /// The status that the program ends with: 2 where the command line is refused, or help or the
+    /// version is shown, 4 where memory ran out.
     pub fn status(&self) -> u8
         ensures { result ≡ words_status self.now }
     {
@@ -63,7 +64,7 @@ impl From<Error> for WordsFault {
 impl From<io::Error> for WordsFault {
     ghost from_gives = { λ e fault. fault ≡ of_words_error (error_kind e) };
 
-    // The fault of words that can't be read: out of memory, or a word that isn't UTF-8.
+    // The fault of a command line that can't be read: out of memory, or a word that isn't UTF-8.
     fn from(error: io::Error) -> WordsFault {
         match error.kind() {
             io::ErrorKind::OutOfMemory => WordsFault::OutOfMemory,

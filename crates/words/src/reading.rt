@@ -27,7 +27,7 @@ const DEFAULT_DEPTH: u64 = 100_000;
 /// processors each gets eight, so that all are busy until near the end.
 const DEFAULT_PREFIXES: u32 = 64;
 
-/// What is said where the words name standard input both for the guest program and for parts.
+/// What is said where standard input is named both for the guest program and for parts.
 const STANDARD_INPUT_TWICE: &str = "standard input can't be both the guest program and the parts";
 
 /// The command words that the system gave the program. The first is the program's own name.
@@ -46,27 +46,27 @@ struct CommandArguments<'a, 'w> {
     alloc: Global,
     /// The command's name.
     name: &'w str,
-    words: &'a ArgMatches<'w>,
+    args: &'a ArgMatches<'w>,
 }
 
 impl CommandArguments<'_, '_> {
-    // Whether this argument is given.
+    // Whether this argument has a value, given or the default one.
     fn has_argument(&self, argument: &str) -> bool {
-        self.words.get_str(argument).is_some()
+        self.args.get_str(argument).is_some()
     }
 
-    // The word that is given for this argument, or an empty one where none is.
-    fn word(&self, argument: &str) -> Result<String, AllocError> {
-        String::from_str(self.alloc, self.words.get_str(argument).unwrap_or(""))
+    // The value of this argument, given or the default one; an empty string where it has none.
+    fn value_or_empty(&self, argument: &str) -> Result<String, AllocError> {
+        String::from_str(self.alloc, self.args.get_str(argument).unwrap_or(""))
     }
 
-    // The words that are given for this argument, none where it isn't given.
-    fn all_words(&self, argument: &str) -> Result<Vec<String>, AllocError> {
-        let mut words = Vec::new(self.alloc);
-        for word in self.words.get_strs(argument).unwrap_or(&[]) {
-            words.push(String::from_str(self.alloc, word)?)?;
+    // The values of this argument, given or the default ones, if it has any.
+    fn all_values(&self, argument: &str) -> Result<Vec<String>, AllocError> {
+        let mut values = Vec::new(self.alloc);
+        for value in self.args.get_strs(argument).unwrap_or(&[]) {
+            values.push(String::from_str(self.alloc, value)?)?;
         }
-        Ok(words)
+        Ok(values)
     }
 
     // The bound that is given, or else the default one; at most `BOUND`, since `clap` has refused a
@@ -74,7 +74,7 @@ impl CommandArguments<'_, '_> {
     fn bound(&self) -> u32
         ensures { IsSearch (UpTo result) }
     {
-        let bound: u32 = self.words.get_one("bound").unwrap_or(DEFAULT_BOUND);
+        let bound: u32 = self.args.get_one("bound").unwrap_or(DEFAULT_BOUND);
         bound.min(BOUND)
     }
 
@@ -84,14 +84,14 @@ impl CommandArguments<'_, '_> {
         ensures some { 1 ≤ result }
         ensures few { result ≤ MOST }
     {
-        let workers: u32 = self.words.get_one("workers").unwrap_or(1);
+        let workers: u32 = self.args.get_one("workers").unwrap_or(1);
         workers.clamp(1, WORKERS)
     }
 
     // Whether a search without a bound is asked for, by the command `unbounded` or by
     // `--unbounded`.
     fn is_unbounded(&self) -> bool {
-        self.name == "unbounded" || self.words.get_flag("unbounded")
+        self.name == "unbounded" || self.args.get_flag("unbounded")
     }
 
     // How far a search goes: without a bound where `is_unbounded`, else up to the bound that is
@@ -107,18 +107,18 @@ impl CommandArguments<'_, '_> {
         }
     }
 
-    // The search that is asked for: how far it goes, by how many workers, and whether it tells its
-    // progress.
+    // The search that is asked for: its options, by how many workers, and whether it tells its
+    // progress. No argument sets its quota, the number of schedules that one walk tries.
     fn exploration(&self) -> Exploration {
         Exploration {
             options: Options {
                 search: self.search(self.is_unbounded()),
-                limit: self.words.get_one("limit"),
+                limit: self.args.get_one("limit"),
                 quota: QUOTA,
-                quick: self.words.get_flag("quick"),
+                quick: self.args.get_flag("quick"),
             },
             workers: self.workers(),
-            progress: self.words.get_flag("progress"),
+            progress: self.args.get_flag("progress"),
         }
     }
 
@@ -128,7 +128,7 @@ impl CommandArguments<'_, '_> {
         requires { IsSearch (UpTo bound) }
     {
         Limits {
-            limit: self.words.get_one("limit").unwrap_or(DEFAULT_LIMIT),
+            limit: self.args.get_one("limit").unwrap_or(DEFAULT_LIMIT),
             bound,
             workers: self.workers(),
         }
@@ -139,9 +139,9 @@ impl CommandArguments<'_, '_> {
     fn guest_request(&self) -> Result<GuestRequest, AllocError> {
         Ok(if self.name == "replay" {
             GuestRequest::Replay {
-                schedule: self.word("SCHEDULE")?,
+                schedule: self.value_or_empty("SCHEDULE")?,
             }
-        } else if self.words.get_flag("trace") {
+        } else if self.args.get_flag("trace") {
             GuestRequest::Trace(self.exploration())
         } else {
             GuestRequest::Explore(self.exploration())
@@ -151,40 +151,41 @@ impl CommandArguments<'_, '_> {
     // The request for a search under a prefix.
     fn under_request(&self) -> Result<UnderRequest, AllocError> {
         Ok(UnderRequest {
-            file: self.word("FILE")?,
-            prefix: self.word("under")?,
+            file: self.value_or_empty("FILE")?,
+            prefix: self.value_or_empty("under")?,
             search: self.exploration(),
         })
     }
 
-    // The request for an explanation.
+    // The request for an explanation of the schedule that is given, or of one that a search finds.
     fn explain_request(&self) -> Result<ExplainRequest, AllocError> {
         let schedule = if self.has_argument("SCHEDULE") {
-            Some(self.word("SCHEDULE")?)
+            Some(self.value_or_empty("SCHEDULE")?)
         } else {
             None
         };
         Ok(ExplainRequest {
-            file: self.word("FILE")?,
+            file: self.value_or_empty("FILE")?,
             schedule,
             search: self.exploration(),
         })
     }
 
-    // The form in which an explanation is told: an HTML page, JSON, or text of a width, with the
-    // most steps that are all shown.
+    // The form in which an explanation is told: an HTML page, JSON, or text, with the width of its
+    // lines and the most steps that a schedule may have for each of them to be shown. `--all` shows
+    // each step of any schedule.
     fn explain_form(&self) -> ExplainForm {
-        if self.words.get_flag("html") {
+        if self.args.get_flag("html") {
             return ExplainForm::Html;
         }
-        if self.words.get_flag("json") {
+        if self.args.get_flag("json") {
             return ExplainForm::Json;
         }
-        let width: u32 = self.words.get_one("width").unwrap_or(DEFAULT_WIDTH);
-        let steps: u32 = self.words.get_one("steps").unwrap_or(DEFAULT_STEPS);
+        let width: u32 = self.args.get_one("width").unwrap_or(DEFAULT_WIDTH);
+        let steps: u32 = self.args.get_one("steps").unwrap_or(DEFAULT_STEPS);
         ExplainForm::Text {
             width: width as usize,
-            steps: if self.words.get_flag("all") {
+            steps: if self.args.get_flag("all") {
                 usize::MAX
             } else {
                 steps as usize
@@ -192,21 +193,21 @@ impl CommandArguments<'_, '_> {
         }
     }
 
-    // The request for a check of guest programs.
+    // The request for a check of guest programs. Only `--deep` has it go through schedules.
     fn check_request(&self) -> Result<CheckRequest, AllocError> {
-        let depth = self.words.get_one("limit").unwrap_or(DEFAULT_DEPTH);
-        let form = if self.words.get_flag("json") {
+        let depth = self.args.get_one("limit").unwrap_or(DEFAULT_DEPTH);
+        let form = if self.args.get_flag("json") {
             CheckForm::Json
-        } else if self.words.get_flag("short") {
+        } else if self.args.get_flag("short") {
             CheckForm::Short
         } else {
             CheckForm::Lines
         };
         Ok(CheckRequest {
-            files: self.all_words("FILE")?,
-            strict: self.words.get_flag("strict"),
-            depth: self.words.get_flag("deep").then_some(depth),
-            remarks: self.words.get_flag("remarks"),
+            files: self.all_values("FILE")?,
+            strict: self.args.get_flag("strict"),
+            depth: self.args.get_flag("deep").then_some(depth),
+            remarks: self.args.get_flag("remarks"),
             form,
         })
     }
@@ -214,35 +215,36 @@ impl CommandArguments<'_, '_> {
     // The request for the searches of a suite.
     fn suite_request(&self) -> Result<SuiteRequest, AllocError> {
         Ok(SuiteRequest {
-            files: self.all_words("FILE")?,
+            files: self.all_values("FILE")?,
             limits: self.limits(self.bound()),
-            json: self.words.get_flag("json"),
-            progress: self.words.get_flag("progress"),
+            json: self.args.get_flag("json"),
+            progress: self.args.get_flag("progress"),
         })
     }
 
-    // The request to say whether a guest program is right.
+    // The request to say whether a guest program is right: none of its schedules is bad. The bound
+    // is the greatest, since no argument sets it.
     fn verify_request(&self) -> Result<VerifyRequest, AllocError> {
         Ok(VerifyRequest {
-            file: self.word("FILE")?,
+            file: self.value_or_empty("FILE")?,
             limits: self.limits(BOUND),
         })
     }
 
-    // The request for a list of prefixes.
+    // The request for a list of prefixes; with `--unbounded`, of those that sleep sets leave.
     fn prefixes_request(&self) -> Result<PrefixesRequest, AllocError> {
         Ok(PrefixesRequest {
-            file: self.word("FILE")?,
-            at_least: self.words.get_one("at-least").unwrap_or(DEFAULT_PREFIXES),
-            is_pruned: self.words.get_flag("unbounded"),
+            file: self.value_or_empty("FILE")?,
+            at_least: self.args.get_one("at-least").unwrap_or(DEFAULT_PREFIXES),
+            is_pruned: self.args.get_flag("unbounded"),
         })
     }
 
-    // The request to join parts. Refused where the words name standard input both for the guest
-    // program and for parts.
+    // The request to join parts. Refused where standard input is named both for the guest program
+    // and for parts.
     fn join_request(&self) -> Result<JoinRequest, WordsFault> {
-        let file = self.word("FILE")?;
-        let parts = self.all_words("PART")?;
+        let file = self.value_or_empty("FILE")?;
+        let parts = self.all_values("PART")?;
         let mut parts_read = parts.iter();
         if is_standard_input(file.as_str())
             && parts_read.any(|part| is_standard_input(part.as_str()))
@@ -259,8 +261,8 @@ impl CommandArguments<'_, '_> {
     }
 }
 
-/// Parses the command words into the request that they make. The first word is the program's own
-/// name.
+/// Parses the words of the command line, the first of which is the program's own name, into the
+/// request that they make. The default `replay` is never taken: `clap` demands a subcommand.
 ///
 /// # Errors
 ///
@@ -268,8 +270,8 @@ impl CommandArguments<'_, '_> {
 /// `OutOfMemory`.
 pub fn parse_request(alloc: Global, words: &[String]) -> Result<Request, WordsFault> {
     let matches = ctxbound_command(alloc)?.try_get_matches_from(words)?;
-    let (name, words) = matches.subcommand().unwrap_or(("replay", &matches));
-    let given = CommandArguments { alloc, name, words };
+    let (name, args) = matches.subcommand().unwrap_or(("replay", &matches));
+    let given = CommandArguments { alloc, name, args };
     let request = match name {
         "check" => Request::Check(given.check_request()?),
         "suite" => Request::Suite(given.suite_request()?),
@@ -279,7 +281,7 @@ pub fn parse_request(alloc: Global, words: &[String]) -> Result<Request, WordsFa
         "explain" => Request::Explain(given.explain_request()?, given.explain_form()),
         _ if given.has_argument("under") => Request::Under(given.under_request()?),
         _ => Request::Guest {
-            file: given.word("FILE")?,
+            file: given.value_or_empty("FILE")?,
             request: given.guest_request()?,
         },
     };

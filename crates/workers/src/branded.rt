@@ -1,4 +1,4 @@
-//! Books that are known to be of one search.
+//! Books that are known to be of one search, by their type.
 
 ghost use Rattle.std.specs.Prelude.{◌≡◌, ◌≤◌, ◌-◌, ◌⊎◌, ◌↔◌, [], OnOk, OnErr, IsTrue, length, drop};
 ghost use Rattle.items.specs.Items.{AreOf};
@@ -15,7 +15,8 @@ use items::item::Item;
 use std::alloc::{AllocError, Global};
 use std::marker::{Brand, Model, PhantomData};
 
-/// The search that a book is of, for contracts alone. Each stretch of rounds picks its search.
+/// The search that a book is of, as a type: item, mode, and whether it is quick and lists deferred
+/// prefixes. For contracts alone. Each stretch of rounds is given its own.
 pub(crate) trait SearchBrand {
     ghost use Rattle.std.specs.Prelude.{Bool};
     ghost use Rattle.items.specs.declared.mode.Mode.{Mode};
@@ -30,7 +31,7 @@ pub(crate) trait SearchBrand {
     ghost lists: { Bool };
 }
 
-// No value that stands here is ever used: each call picks the values of its own search.
+// These values are never used: `Brand` stands for other ones at each call.
 impl SearchBrand for Brand {
     ghost use Rattle.std.specs.Prelude.{[], false};
     ghost use Rattle.items.specs.declared.mode.Mode.TheVariants.{Reduced};
@@ -51,8 +52,8 @@ impl SearchBrand for Brand {
     ghost lists = { false };
 }
 
-/// A book that is known to be of one search: a worker that gets it from a lock compares nothing.
-/// Contracts see the book.
+/// A book that is known, by its type, to be of the search `N`: a worker that gets it from a lock
+/// compares nothing. Contracts see the book.
 #[derive(Drop)]
 pub(crate) struct BrandedBook<N: SearchBrand> {
     book: Book,
@@ -71,7 +72,7 @@ impl<N: SearchBrand> Model for BrandedBook<N> {
 }
 
 impl<N: SearchBrand> BrandedBook<N> {
-    /// Marks a book of the search `N` as such.
+    /// Brands a book that is of the search `N`: its type says so from then on.
     pub fn new(book: Book) -> BrandedBook<N>
         requires { IsOf book N.of N.mode N.quick N.lists }
         ensures { result ≡ book }
@@ -82,14 +83,14 @@ impl<N: SearchBrand> BrandedBook<N> {
         }
     }
 
-    /// The book, without its mark.
+    /// The book, without its brand.
     pub fn book(&self) -> &Book
         ensures { result.now ≡ self.now }
     {
         &self.book
     }
 
-    /// Takes the mark off the book.
+    /// Gives the book back, without its brand.
     pub fn into_book(self) -> Book
         ensures same { result ≡ self }
         ensures of { IsOf result N.of N.mode N.quick N.lists }
@@ -97,9 +98,9 @@ impl<N: SearchBrand> BrandedBook<N> {
         self.book
     }
 
-    /// Settles the walks of a round that a worker keeps, all at once; the worker keeps none then.
-    /// The walks are given up where their items aren't open in that order, or where the book lists
-    /// what is put off and the walks don't.
+    /// Settles the walks that a worker keeps of a round, all at once; the worker keeps none then.
+    /// They are given up, that is, their items stay open, where these aren't open in the order of
+    /// the walks, or where the book lists deferred prefixes and the walks don't.
     ///
     /// # Errors
     ///
@@ -126,15 +127,16 @@ impl<N: SearchBrand> BrandedBook<N> {
         let settled = self
             .book
             .settle_all(alloc, items, places, &mut worker.found);
-        worker.forget(round.lists);
+        worker.clear(round.lists);
         let _is_taken = settled?;
         Ok(())
     }
 
-    /// Goes on after a round. Answers whether another round follows whatever was found: items are
-    /// open, fewer than `own_from`, from which number on workers have rounds of their own, and no
-    /// limit is reached. A quick book first drops what can't hold the first bad schedule any more.
-    pub fn advance(&mut self, limit: Option<u64>, own_from: usize) -> bool
+    /// Finishes a round: drops open items of a quick book that can't hold the first bad schedule
+    /// any more, and answers whether another round that workers share follows. It does where items
+    /// are open, but fewer than `own_from`, from which on each worker has rounds of its own, and
+    /// the limit isn't reached.
+    pub fn finish_round(&mut self, limit: Option<u64>, own_from: usize) -> bool
         ensures book { self.new ≡ thinned self.old }
         ensures answer { IsTrue result ↔ GoesOn limit own_from self.new }
     {
@@ -149,7 +151,7 @@ impl<N: SearchBrand> BrandedBook<N> {
         }
     }
 
-    /// Writes copies of the items of the next round over `items`.
+    /// Replaces `items`, items of the same program, by copies of those of the next round.
     ///
     /// # Errors
     ///

@@ -1,4 +1,4 @@
-//! What the workers of a search share under a lock.
+//! What workers that share rounds have under a lock.
 
 ghost use Rattle.std.specs.Prelude.{◌≡◌, ◌≤◌, ◌-◌, ◌||◌, ◌↔◌, true, false, if◌then◌else◌, vec_len, IfSome, OnOk, OnErr, IsTrue};
 ghost use Rattle.std.specs.Option.{ForSome};
@@ -21,21 +21,21 @@ use std::alloc::{AllocError, Global};
 use std::mem;
 use std::sync::Arc;
 
-/// What workers share under a lock: the book of a search, and the round that they walk.
+/// What workers that share rounds have under a lock: the search's book, and their round.
 #[derive(Drop)]
 pub(crate) struct Desk<N: SearchBrand> {
-    /// Padding after the lock, which workers try while one of them is at the desk.
+    /// Padding after the lock, which other workers try while one has it.
     padding: [u64; PADDING_WORDS],
     pub book: BrandedBook<N>,
     limit: Option<u64>,
     /// From how many open items on workers have rounds of their own.
     own_from: usize,
     round: Arc<Round>,
-    /// The round before, whose memory serves the next one.
+    /// The round before this one, whose memory serves the next one.
     last: Option<Arc<Round>>,
     /// How many items of the round are neither settled nor given up.
     left: usize,
-    /// Whether no round follows in this stretch.
+    /// Whether this round is the last of the stretch.
     ends: bool,
     /// Whether the last round of the stretch has ended.
     is_over: bool,
@@ -44,7 +44,8 @@ pub(crate) struct Desk<N: SearchBrand> {
 }
 
 impl<N: SearchBrand> Desk<N> {
-    /// A desk with the first round of a stretch of a book's rounds.
+    /// A desk with a book and the first round of a stretch, which follows an empty round 0.
+    /// `own_from` is the number of open items from which on workers have rounds of their own.
     ///
     /// # Errors
     ///
@@ -78,18 +79,18 @@ impl<N: SearchBrand> Desk<N> {
             ends: false,
             is_over: false,
         };
-        desk.next_round(alloc)?;
+        desk.begin_next_round(alloc)?;
         Ok(desk)
     }
 
-    /// The book, when the stretch is over.
+    /// Gives the book back, once the stretch is over.
     pub fn into_book(self) -> Book
         ensures { IsOf result N.of N.mode N.quick N.lists }
     {
         self.book.into_book()
     }
 
-    /// The round that the workers walk, if the stretch is not over.
+    /// The round that workers walk; `None` where the stretch is over, or it can't be cloned.
     pub fn round(&self) -> Option<Arc<Round>>
         ensures { IfSome result (λ r. IsRoundOf N.of.program N.mode (arc_value r)) }
     {
@@ -99,8 +100,9 @@ impl<N: SearchBrand> Desk<N> {
         Arc::try_clone(&self.round).ok()
     }
 
-    // The last round's items, for their memory, if no worker has that round any more; else none.
-    fn spare_items(&mut self, alloc: Global) -> Vec<Item>
+    // Takes the items of the round before this one, whose memory serves the next round. Answers no
+    // items where there is no such round, or a worker still has it.
+    fn take_spare_items(&mut self, alloc: Global) -> Vec<Item>
         ensures items { AreOf N.of.program result.items }
         ensures same { (self.new.book ≡ self.old.book) × (self.new.round ≡ self.old.round)
             × (self.new.left ≡ self.old.left) × (self.new.limit ≡ self.old.limit)
@@ -116,12 +118,9 @@ impl<N: SearchBrand> Desk<N> {
         }
     }
 
-    // Begins the next round of the stretch. Where nothing is open the stretch is over.
-    //
-    // # Errors
-    //
-    // `AllocError` where memory runs out. The desk keeps the round that it had then.
-    fn next_round(&mut self, alloc: Global) -> Result<(), AllocError>
+    // Begins the next round of the stretch, or ends the stretch where no item is open. Where memory
+    // runs out, the desk keeps the round that it has.
+    fn begin_next_round(&mut self, alloc: Global) -> Result<(), AllocError>
         ensures round { OnOk result
             (Follows self.old.book (arc_value self.old.round) (arc_value self.new.round)) }
         ensures left { OnOk result (self.new.left ≡ vec_len (arc_value self.new.round).items) }
@@ -131,7 +130,7 @@ impl<N: SearchBrand> Desk<N> {
         ensures same { (self.new.book ≡ self.old.book) × (self.new.limit ≡ self.old.limit)
             × (self.new.own_from ≡ self.old.own_from) × (self.new.ends ≡ self.old.ends) }
     {
-        let mut items = self.spare_items(alloc);
+        let mut items = self.take_spare_items(alloc);
         self.book.next_round(alloc, &mut items)?;
         let before = &self.round;
         let round = Round {
@@ -150,8 +149,8 @@ impl<N: SearchBrand> Desk<N> {
         Ok(())
     }
 
-    /// Takes note that `done` more items of the round are settled or given up, and whether the
-    /// stretch `ends` with the round. Answers whether all items of the round are done.
+    /// Notes that `done` more items of the round are settled or given up, and, if `ends` is set,
+    /// that the round is the last of the stretch. Answers whether all items of the round are done.
     pub fn note_done(&mut self, done: usize, ends: bool) -> bool
         ensures answer { IsTrue result ↔ self.new.left ≡ 0 }
         ensures left { self.new.left ≡ self.old.left - done }
@@ -165,13 +164,14 @@ impl<N: SearchBrand> Desk<N> {
         self.left == 0
     }
 
-    /// Ends a round of which all items are done: another round begins, and the gate is told how far
-    /// the search is, or the stretch is over, as where workers may have rounds of their own.
+    /// Goes on from a round whose items are all done to the next, or ends the stretch. Unless the
+    /// round was noted as the last, first drops open items of a quick book that can't hold the
+    /// first bad schedule any more. If another round follows, tells the gate how far the search is.
     ///
     /// # Errors
     ///
     /// `AllocError` where memory runs out. The stretch is over then.
-    pub fn end_round<G: Gate>(&mut self, alloc: Global, gate: &G) -> Result<(), AllocError>
+    pub fn advance<G: Gate>(&mut self, alloc: Global, gate: &G) -> Result<(), AllocError>
         ensures book { self.new.book
             ≡ (if self.old.ends then self.old.book else thinned self.old.book) }
         ensures over { OnOk result (self.new.is_over ≡ false
@@ -184,9 +184,9 @@ impl<N: SearchBrand> Desk<N> {
         ensures same { (self.new.limit ≡ self.old.limit) × (self.new.own_from ≡ self.old.own_from) }
     {
         self.is_over = true;
-        if !self.ends && self.book.advance(self.limit, self.own_from) {
+        if !self.ends && self.book.finish_round(self.limit, self.own_from) {
             gate.round_ended(Progress::of(self.book.book()));
-            self.next_round(alloc)?;
+            self.begin_next_round(alloc)?;
         }
         Ok(())
     }

@@ -9,7 +9,7 @@ use report::ExploreError;
 /// How a worker, or all of them, ended.
 #[derive(Clone, Copy, Debug, PartialEq, Eq)]
 pub enum Exit {
-    /// The stretch of rounds is over, or the board has no number any more.
+    /// All rounds of the stretch are walked, or the board has no number any more.
     Finished,
     /// The gate stopped a worker.
     Stopped,

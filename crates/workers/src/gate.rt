@@ -1,4 +1,4 @@
-//! Gates: who is asked before an item is walked, and may stop a search of several workers.
+//! Gates: what is asked before an item is walked, and may stop a search of several workers.
 
 ghost use Rattle.std.specs.Prelude.{◌≡◌, Bool, true};
 ghost use Rattle.workers.specs.declared.gate.Answer.TheVariants.{Stop};
@@ -14,11 +14,11 @@ pub enum Answer {
     Stop,
 }
 
-/// What each worker of a search asks before an item is walked, and tells after that. No lock is
-/// held during these calls, so a gate may keep a worker waiting. After each round a gate is told
-/// how far the search is.
+/// What each worker of a search asks before it walks an item, and tells when it has walked it. No
+/// lock is held during these two calls, so a gate may keep a worker waiting. After each round a
+/// gate is told how far the search is.
 ///
-/// A contract sees of a gate whether it may stop a worker, which never changes.
+/// Contracts see of a gate whether it may stop a worker, which never changes.
 pub trait Gate: Sync {
     ghost stops: { Self → Bool };
 
@@ -26,8 +26,8 @@ pub trait Gate: Sync {
     fn may_stop(&self) -> bool
         ensures { result ≡ stops self.now };
 
-    /// Whether a worker walks the item with this number in its round. Workers and items, also those
-    /// of a worker's own round, are counted from 0. By default every worker does.
+    /// The decision whether a worker walks an item of its round. Workers are counted from 0, and so
+    /// are the items of a round, shared or a worker's own. By default each is walked.
     fn before(&self, _worker: u32, _item: u64) -> Answer
         ensures { result ≡ Stop → stops self.now ≡ true }
     {
@@ -37,9 +37,10 @@ pub trait Gate: Sync {
     /// Tells the gate that a worker has walked an item of a round. The walk isn't settled yet.
     fn walked(&self, _worker: u32, _item: u64) {}
 
-    /// Tells the gate how far the search is after a round, when all its items are done and, where
-    /// all workers share it, before another round begins. Where the gate may not stop, others may
-    /// be at rounds of their own. The gate may wait for no worker then. A single worker tells, too.
+    /// Tells the gate how far the search is, after a round whose items are all done, and before
+    /// workers begin another round that they share. Where the gate may not stop, other workers may
+    /// be at rounds of their own. A lock may be held, so the gate may not wait for a worker here.
+    /// The search of a single worker tells it, too.
     fn round_ended(&self, _progress: Progress) {}
 }
 

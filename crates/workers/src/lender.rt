@@ -1,4 +1,4 @@
-//! What workers with rounds of their own share under a lock.
+//! What workers with rounds of their own have under a lock.
 
 ghost use Rattle.std.specs.Prelude.{◌≡◌, ◌≤◌, ◌⊎◌, ◌↔◌, ◌<◌, true, false, IfOk, IfNone, IsTrue, length};
 ghost use Rattle.book.specs.declared.limits.TheConstants.{ROUND};
@@ -23,15 +23,15 @@ use std::marker::PhantomData;
 /// What a worker does next.
 #[derive(Clone, Copy)]
 pub(crate) enum Task {
-    /// The worker walks what it was lent.
+    /// The worker walks the items that it was lent.
     Walk,
-    /// The worker waits for the turn with this number to end.
+    /// The worker waits for the turn with this number to end, and asks again.
     Wait(u64),
     /// The worker quits: nothing more is lent in this stretch.
     Quit,
 }
 
-/// A book that lends each worker rounds of its own.
+/// A book that lends workers open items for rounds of their own, and what decides when.
 #[derive(Drop)]
 pub(crate) struct Lender<N: SearchBrand> {
     padding: [u64; PADDING_WORDS],
@@ -39,22 +39,22 @@ pub(crate) struct Lender<N: SearchBrand> {
     workers: usize,
     limit: Option<u64>,
     quick: bool,
-    /// How many workers walk what they were lent.
+    /// How many workers walk items that they were lent.
     walking: usize,
     /// Whether nothing more is lent in this stretch.
     ends: bool,
     /// Whether memory was refused to a worker.
     refused: bool,
-    /// Whether a worker waits for items that workers who walk now may leave.
+    /// Whether a worker waits for items that other workers may leave.
     waits: bool,
-    /// The turn that ended last.
+    /// The number of the turn that ended last. At a turn's end, workers that wait look again.
     turn: u64,
     search: PhantomData<N>,
     ghost of: { IsOf (as_book book) N.of N.mode N.quick N.lists },
 }
 
 impl<N: SearchBrand> Lender<N> {
-    /// A lender of a book's open items, to this many `workers`.
+    /// A lender of a book's open items to `workers` workers, which are numbered from 0.
     ///
     /// # Errors
     ///
@@ -83,7 +83,7 @@ impl<N: SearchBrand> Lender<N> {
         })
     }
 
-    /// The book, when the stretch is over. What is lent is open.
+    /// Gives the book back, once the stretch is over. Items that are still lent are open.
     ///
     /// # Errors
     ///
@@ -97,8 +97,9 @@ impl<N: SearchBrand> Lender<N> {
         self.book.into_book(alloc)
     }
 
-    // How many items a worker is lent at most: few where few are free, so that nobody waits long.
-    fn share(&self) -> usize
+    // How many items a worker is lent at most: the free ones divided by `SHARES` times the number
+    // of workers, but from 1 to `ROUND`. So few are lent where few are free, and nobody waits long.
+    fn share_len(&self) -> usize
         ensures { result ≤ ROUND }
     {
         let shares = self.workers.saturating_mul(SHARES);
@@ -106,7 +107,9 @@ impl<N: SearchBrand> Lender<N> {
         share.unwrap_or(1).max(1).min(ROUND)
     }
 
-    /// Lends a worker a round of its own, if any item is free. Answers what the worker does next.
+    /// Lends a worker free items for its own round, as `loan`, and answers `Walk`. Answers `Wait`
+    /// where none is free, but other workers may leave some; else `Quit`. Where memory is refused,
+    /// or the book doesn't lend to this worker, nothing is lent from then on.
     pub fn lend(&mut self, alloc: Global, worker: u32, loan: &mut Loan) -> Task
         ensures walk { result ≡ Walk → (self.old.ends ≡ false) × IsLent N.of.program loan.new }
         ensures quit { result ≡ Quit → (self.new.ends ≡ true)
@@ -120,7 +123,7 @@ impl<N: SearchBrand> Lender<N> {
             self.waits = true;
             return Task::Wait(self.turn.wrapping_add(1));
         }
-        let most = self.share();
+        let most = self.share_len();
         let lent = self.book.lend(alloc, worker as usize, most, loan);
         if lent == Ok(true) {
             self.walking = self.walking.saturating_add(1);
@@ -131,8 +134,8 @@ impl<N: SearchBrand> Lender<N> {
         Task::Quit
     }
 
-    // Whether more items are lent: the limit isn't reached, and a quick search found nothing bad.
-    fn goes_on(&self) -> bool
+    // Whether more may be lent: the search is below its limit, and has no bad schedule if quick.
+    fn may_lend(&self) -> bool
         ensures { IsTrue result ↔ MayLend self.now.limit self.now.quick self.now.book.finished }
     {
         let finished = self.book.finished();
@@ -145,8 +148,9 @@ impl<N: SearchBrand> Lender<N> {
         }
     }
 
-    /// Settles what a worker's walks of all items of its loan found. Where the search goes on, the
-    /// gate is told how far the search is; else nothing more is lent.
+    /// Settles what a worker's walks of all items of its loan found. Where they aren't settled, the
+    /// limit is reached, or a quick search has a bad schedule, nothing more is lent. Else, if an
+    /// item is open, the gate is told how far the search is.
     pub fn settle<G: Gate>(&mut self, alloc: Global, worker: &mut Worker, loan: &Loan, gate: &G)
         requires loan { IsLoanOf N.of.program loan.now }
         requires walked { let items = all_of N.of.program loan.now in
@@ -163,7 +167,7 @@ impl<N: SearchBrand> Lender<N> {
         let (number, found) = (worker.number as usize, &mut worker.found);
         let settled = self.book.settle(alloc, number, loan, found);
         self.refused = self.refused || settled.is_err();
-        if settled != Ok(true) || !self.goes_on() {
+        if settled != Ok(true) || !self.may_lend() {
             self.ends = true;
         }
         if !self.ends && (self.walking > 0 || self.book.free_len() > 0) {
@@ -171,7 +175,8 @@ impl<N: SearchBrand> Lender<N> {
         }
     }
 
-    /// Gives up a worker's loan where memory was refused: the items stay open. No more is lent.
+    /// Gives up a worker's loan, for whose walks there was no memory: its items stay open, nothing
+    /// more is lent, and `into_book` fails.
     pub fn give_up(&mut self)
         ensures { (self.new.ends ≡ true) × (self.new.refused ≡ true) }
     {
@@ -180,13 +185,14 @@ impl<N: SearchBrand> Lender<N> {
         self.ends = true;
     }
 
-    /// Ends a turn, if a worker waits that has something to do now, and answers the turn's number.
-    pub fn end_turn(&mut self) -> Option<u64>
+    /// Ends a turn if workers wait for that, and have to look again: an item is free, or nothing
+    /// more will be lent. Answers the number of the turn; `None` where none ended.
+    pub fn end_turn_if_due(&mut self) -> Option<u64>
         ensures { IfNone result (self.old.waits ≡ true → (0 < self.old.walking)
             × (self.old.ends ≡ false) × (length self.old.book.free ≡ 0)) }
     {
-        let goes_on = self.walking > 0 && !self.ends && self.book.free_len() == 0;
-        if !self.waits || goes_on {
+        let turn_lasts = self.walking > 0 && !self.ends && self.book.free_len() == 0;
+        if !self.waits || turn_lasts {
             return None;
         }
         self.waits = false;

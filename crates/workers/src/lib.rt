@@ -1,8 +1,8 @@
 //! Workers, who walk the rounds of a search together, each in a thread of its own.
 //!
-//! - A [`Team`] is a book and its workers. It walks a stretch of rounds and settles the walks,
-//!   until what follows has to be judged. Its contract says that the book is of the same search
-//!   then; all else that is known of the book is in its type.
+//! - A [`Team`] is a book and its workers. It walks a stretch of rounds and settles the walks, up
+//!   to a round after which the caller decides how the search goes on. The book is of the same
+//!   search then.
 //! - Workers share each round, or, where many items are open, each is lent rounds of its own.
 //! - Each worker asks a [`Gate`] before it walks an item, and stops where it says so.
 //! - [`Exit`] is how the workers ended.

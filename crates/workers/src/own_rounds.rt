@@ -1,4 +1,4 @@
-//! A stretch of rounds of which each is one worker's own.
+//! A stretch of rounds that workers don't share: each round is one worker's own.
 
 ghost use Rattle.std.specs.Prelude.{◌≡◌, ◌≤◌, false, IfOk, OnOk, length, vec_len};
 ghost use Rattle.std.specs.Arc.{arc_value};
@@ -27,7 +27,7 @@ use std::sync::{Arc, Wait};
 use std::thread;
 use std::thread::Threads;
 
-/// What workers with rounds of their own share: how to walk, a gate that may not stop, the lender.
+/// What workers with rounds of their own share: how to walk, a gate that never stops, the lender.
 #[derive(Drop)]
 pub(crate) struct Lending<'a, N: SearchBrand, G: Gate> {
     pub alloc: Global,
@@ -42,7 +42,8 @@ pub(crate) struct Lending<'a, N: SearchBrand, G: Gate> {
 }
 
 impl<N: SearchBrand, G: Gate> Lending<'_, N, G> {
-    // Walks what a worker was lent, in the loan's order; writes copies of the items over `items`.
+    // Walks the items that a worker was lent, in the loan's order. `worker.found` then has what the
+    // walks found, and `items` copies of the items. The gate never stops a worker here.
     fn walk_loan(
         &self,
         worker: &mut Worker,
@@ -58,7 +59,7 @@ impl<N: SearchBrand, G: Gate> Lending<'_, N, G> {
             (HaveFound N.of.program N.mode items (places_from 0 (length items)) worker.new.found) }
     {
         worker.walker.clear(&mut worker.found, self.lists);
-        loan.write_items(self.alloc, &self.program, items)?;
+        loan.clone_items_into(self.alloc, &self.program, items)?;
         for place in 0..items.len() {
             if self.gate.before(worker.number, place as u64) == Answer::Stop {
                 unreachable!()
@@ -66,15 +67,16 @@ impl<N: SearchBrand, G: Gate> Lending<'_, N, G> {
             let (item, found) = (&items[place], &mut worker.found);
             worker
                 .walker
-                .walk_on(self.alloc, found, item, self.mode, self.quota)?;
+                .walk_into(self.alloc, found, item, self.mode, self.quota)?;
             self.gate.walked(worker.number, place as u64);
         }
         Ok(())
     }
 
-    // Lets a worker walk what it was lent. In one hold of the lock, the worker then settles what it
-    // found, is lent more, and ends the turn of those who wait. Answers what the worker does next.
-    fn walk_round<R: Wait>(
+    // Lets a worker walk the items that it was lent. Then it takes the lock, settles the walks, or
+    // gives them up where memory ran out, and is lent more. If others wait and have to look again,
+    // it wakes them. Answers what the worker does next.
+    fn walk_and_settle_round<R: Wait>(
         &self,
         rt: &R,
         worker: &mut Worker,
@@ -95,26 +97,26 @@ impl<N: SearchBrand, G: Gate> Lending<'_, N, G> {
             Err(AllocError) => lender.give_up(),
         }
         let next = lender.lend(self.alloc, worker.number, loan);
-        let ended = lender.end_turn();
+        let ended = lender.end_turn_if_due();
         drop(lender);
         if let Some(turn) = ended {
-            self.monitor.notify(turn);
+            self.monitor.notify_all(turn);
         }
         next
     }
 
-    // Lets a worker walk rounds of its own, until nothing more is lent.
+    // Lets a worker walk rounds of its own, and settle the walks, until nothing more is lent.
     fn work<R: Wait>(&self, rt: &R, worker: &mut Worker)
         requires { worker.old.walker ≡ N.of.program }
         ensures { worker.new.walker ≡ N.of.program }
     {
         let mut loan = Loan::new(self.alloc);
         let mut items = Vec::new(self.alloc);
-        // Turn 0 has ended from the start, so nobody waits for it.
+        // Turn 0 has ended from the start: the worker is lent its first items at once.
         let mut next = Task::Wait(0);
         for _ in rt.forever() {
             next = match next {
-                Task::Walk => self.walk_round(rt, worker, &mut loan, &mut items),
+                Task::Walk => self.walk_and_settle_round(rt, worker, &mut loan, &mut items),
                 Task::Wait(turn) => {
                     self.monitor.wait(rt, turn);
                     let mut lender = self.monitor.lock(rt);
@@ -127,8 +129,9 @@ impl<N: SearchBrand, G: Gate> Lending<'_, N, G> {
     }
 }
 
-// Lets all workers walk rounds of their own, each in a thread, or one by one where none is made.
-fn work_all<N: SearchBrand + Send + Sync, G: Gate, R: Threads + Wait + Sync>(
+// Runs all workers, each in a thread of its own: they walk rounds that they don't share, and settle
+// the walks. Those for which no thread can be made do so one after another.
+fn run_workers<N: SearchBrand + Send + Sync, G: Gate, R: Threads + Wait + Sync>(
     rt: &R,
     lending: &Lending<N, G>,
     workers: &mut Vec<Worker>,
@@ -144,12 +147,13 @@ fn work_all<N: SearchBrand + Send + Sync, G: Gate, R: Threads + Wait + Sync>(
     thread::for_each_mut(rt, workers.as_mut_slice(), WORKERS as usize, &one);
 }
 
-/// Walks a stretch of rounds of a team's workers' own, and settles the walks.
+/// Lets each of a team's workers walk rounds of its own, of items that the book lends to it, and
+/// settle the walks, until nothing more is lent. Answers the team.
 ///
 /// # Errors
 ///
 /// `AllocError` where memory runs out.
-pub(crate) fn walk_own_rounds<N: SearchBrand + Send + Sync, G: Gate, R: Threads + Wait + Sync>(
+pub(crate) fn run_own_rounds<N: SearchBrand + Send + Sync, G: Gate, R: Threads + Wait + Sync>(
     team: Team,
     rt: &R,
     alloc: Global,
@@ -174,7 +178,7 @@ pub(crate) fn walk_own_rounds<N: SearchBrand + Send + Sync, G: Gate, R: Threads 
         gate,
         monitor: Monitor::new(Lender::<N>::new(alloc, book, workers.len(), options.limit)?),
     };
-    work_all(rt, &lending, &mut workers);
+    run_workers(rt, &lending, &mut workers);
     let Lending { monitor, .. } = lending;
     let book = monitor.mutex.into_inner().into_book(alloc)?;
     Ok(Team { book, workers })

@@ -1,4 +1,4 @@
-//! A round of several workers.
+//! A round that several workers share.
 
 ghost use Rattle.std.specs.Prelude.{◌≡◌, ◌<◌, ◌≤◌, ◌+◌, ◌⊎◌, ◌↔◌, vec_len, IfSome, IfNone, IsTrue};
 ghost use Rattle.workers.specs.inner.Rounds.{rank};
@@ -12,18 +12,18 @@ use items::mode::Mode;
 pub(crate) struct Round {
     pub mode: Mode,
     pub quick: bool,
-    /// Whether what walks of the round put off is listed.
+    /// Whether prefixes that walks of the round defer are listed.
     pub lists: bool,
     pub quota: u32,
-    /// Which round of its stretch the round is, counted from 1.
+    /// The round's number in its stretch, from 1.
     pub turn: u64,
-    /// The number of the round's first item on the board. Later rounds' items have the next ones.
+    /// The number of the round's first item on the board. The others have the numbers after it.
     pub first: u64,
     pub items: Vec<Item>,
 }
 
 impl Round {
-    /// The place in the round of the item with this number on the board, if it is of the round.
+    /// The index of the round's item that has this number on the board; `None` where none has it.
     pub fn place_of(&self, number: u64) -> Option<usize>
         ensures some { IfSome result (λ k. k < vec_len self.now.items) }
         ensures number { IfSome result (λ k. self.now.first + k ≡ number) }
@@ -38,7 +38,8 @@ impl Round {
         }
     }
 
-    /// How many of the round's items come before this item, in the order of schedules.
+    /// How many of the round's items come before this item: those whose prefix is less than its
+    /// own, as lists of thread numbers are compared.
     pub fn rank_of(&self, item: &Item) -> u64
         ensures { result ≡ rank self.now.items.items item.now }
     {
@@ -51,8 +52,9 @@ impl Round {
         before
     }
 
-    /// Whether a quick search leaves an item out for now, where `least` is the least rank told of
-    /// an item with a bad schedule: the item comes after that one, in the order of schedules.
+    /// Whether a quick search leaves an item open and doesn't walk it: its rank, by
+    /// [`Round::rank_of`], is greater than that of an item with a bad schedule. `least` is the
+    /// least rank of such an item that was told on the board; `NONE_TOLD` where none was.
     pub fn leaves_out(&self, item: &Item, least: u64) -> bool
         ensures { IsTrue result ↔ least < rank self.now.items.items item.now }
     {

@@ -1,4 +1,4 @@
-//! Workers of rounds that all share, each in a thread of its own.
+//! Workers that share rounds, each in a thread of its own.
 
 ghost use Rattle.std.specs.Prelude.{◌≡◌, ◌<◌, ◌≤◌, ◌↔◌, ℕ, [], true, false, vec_len, Some, None, OnOk, IfSome, IfNone, IsTrue};
 ghost use Rattle.std.specs.List.{All, Any};
@@ -22,7 +22,7 @@ use std::sync::Wait;
 use std::thread::Threads;
 use std::{mem, thread};
 
-/// What workers of shared rounds share: a gate, the board to draw items' numbers from, the desk.
+/// What workers that share rounds have: the gate, the board to draw items' numbers from, the desk.
 #[derive(Drop)]
 pub(crate) struct Shared<'a, N: SearchBrand, G> {
     pub alloc: Global,
@@ -31,20 +31,21 @@ pub(crate) struct Shared<'a, N: SearchBrand, G> {
     pub monitor: Monitor<Desk<N>>,
 }
 
-/// A worker of a stretch of rounds that all share, with its seat at the board.
+/// A worker that shares the rounds of a stretch with others, and its seat at the board.
 #[derive(Drop)]
 pub(crate) struct SeatedWorker {
     pub seat: Seat,
-    /// The number that the worker drew last, where the item is of a later round.
+    /// The number that the worker drew last, if it is of an item of a later round.
     pub ahead: Option<u64>,
-    /// How many items of the round the worker drew of which the desk has not taken note yet.
+    /// How many items of the round the worker drew that the desk doesn't count as done yet.
     pub drawn: usize,
     pub exit: Exit,
     pub worker: Worker,
 }
 
 impl SeatedWorker {
-    // Draws the next number of the worker: the one that it drew ahead, or one from the board.
+    // Draws the number of the worker's next item: the one that it drew last, if that was of a later
+    // round, else one from the board. `None` where none is left.
     fn draw_number(&mut self, board: &Board) -> Option<u64>
         requires { self.old.seat.board ≡ board.now.id }
         ensures ahead { IfSome self.old.ahead (λ k. (result ≡ Some k)
@@ -62,7 +63,8 @@ impl SeatedWorker {
         }
     }
 
-    // Whether a quick search leaves an item out for now, given the least rank told on the board.
+    // Whether the search is quick and leaves an item open, since an item of the round that comes
+    // before it is told on the board to have a bad schedule.
     fn leaves_out(&mut self, board: &Board, round: &Round, item: &Item) -> bool
         requires { self.old.seat.board ≡ board.now.id }
         ensures whole { round.now.quick ≡ false → result ≡ false }
@@ -79,7 +81,7 @@ impl SeatedWorker {
         round.leaves_out(item, least)
     }
 
-    // Tells the other workers, on the board, that an item of a round has a bad schedule.
+    // Tells the other workers, on the board, the rank of an item of a round with a bad schedule.
     fn tell_bad_item(&mut self, board: &Board, round: &Round, item: &Item)
         requires { self.old.seat.board ≡ board.now.id }
         ensures told { self.new ≡ record self.old {
@@ -89,8 +91,8 @@ impl SeatedWorker {
         board.tell(&mut self.seat, round.rank_of(item));
     }
 
-    // Lets the worker go from round to round, until the stretch is over, the board has no number
-    // any more, the gate stops the worker or memory runs out. Answers which.
+    // Lets the worker walk one round after another, and settle the walks, until the stretch is over
+    // or the board has no number left (`Finished`), the gate stops the worker or memory runs out.
     fn work<N: SearchBrand, G: Gate, R: Wait>(&mut self, rt: &R, shared: &Shared<N, G>) -> Exit
         requires { IsOn shared.now.board.id N.of.program self.old }
         ensures on { IsOn shared.now.board.id N.of.program self.new }
@@ -100,7 +102,7 @@ impl SeatedWorker {
             let Some(round) = shared.monitor.lock(rt).round() else {
                 return Exit::Finished;
             };
-            if let Some(exit) = self.work_round(rt, shared, &round) {
+            if let Some(exit) = self.walk_and_settle_round(rt, shared, &round) {
                 return exit;
             }
             shared.monitor.wait(rt, round.turn);
@@ -108,9 +110,9 @@ impl SeatedWorker {
         unreachable!()
     }
 
-    // Lets the worker walk items of a round, until all are drawn, and settles the walks. Answers
-    // how the worker ended, if it can't go on.
-    fn work_round<N: SearchBrand, G: Gate, R: Wait>(
+    // Lets the worker walk items of a round until all are drawn, and settle the walks. Answers how
+    // the worker ended; `None` where it can walk the next round.
+    fn walk_and_settle_round<N: SearchBrand, G: Gate, R: Wait>(
         &mut self,
         rt: &R,
         shared: &Shared<N, G>,
@@ -121,8 +123,8 @@ impl SeatedWorker {
         ensures on { IsOn shared.now.board.id N.of.program self.new }
         ensures stopped { result ≡ Some Stopped → G.stops shared.now.gate.now ≡ true }
     {
-        self.worker.forget(round.lists);
-        let exit = self.walk_items(rt, shared, round);
+        self.worker.clear(round.lists);
+        let exit = self.draw_and_walk(rt, shared, round);
         if self.drawn == 0 {
             return exit;
         }
@@ -132,12 +134,9 @@ impl SeatedWorker {
         }
     }
 
-    // Settles at the desk a round's walks that the worker keeps; the stretch `ends` with the round
-    // or not. Where the round's last items are done then, ends the round and tells those who wait.
-    //
-    // # Errors
-    //
-    // `AllocError` where memory runs out; the walks are given up then.
+    // Settles the walks of a round that the worker keeps, or gives them up where memory runs out.
+    // If `ends` is set or memory ran out, the round is the stretch's last. If all its items are
+    // done now, begins the next round, where one follows, and wakes the workers that wait for that.
     fn settle<N: SearchBrand, G: Gate, R: Wait>(
         &mut self,
         rt: &R,
@@ -158,21 +157,17 @@ impl SeatedWorker {
         if !desk.note_done(drawn, ends || settled.is_err()) {
             return settled;
         }
-        let ended = desk.end_round(shared.alloc, shared.gate);
+        let ended = desk.advance(shared.alloc, shared.gate);
         drop(desk);
-        shared.monitor.notify(round.turn);
+        shared.monitor.notify_all(round.turn);
         settled?;
         ended
     }
 
-    // Settles the walks that the worker keeps before all items are drawn, where they are as many as
-    // it may keep, or the last walk, of `item`, found a bad schedule in a quick search. Others
-    // are told of the item then: its rank is one in this round, so the stretch ends with the round.
-    //
-    // # Errors
-    //
-    // `AllocError` where memory runs out; the walks are given up then.
-    fn settle_early<N: SearchBrand, G: Gate, R: Wait>(
+    // Settles the walks that the worker keeps before all items are drawn, if it keeps as many as it
+    // may, or the search is quick and the last walk, of `item`, found a bad schedule (`is_bad`). In
+    // the latter case the round is the stretch's last, and others are told of `item` on the board.
+    fn settle_if_due<N: SearchBrand, G: Gate, R: Wait>(
         &mut self,
         rt: &R,
         shared: &Shared<N, G>,
@@ -198,9 +193,10 @@ impl SeatedWorker {
         Ok(())
     }
 
-    // Lets the worker draw items of a round and walk these, until all are drawn. Answers how the
-    // worker ended, if it can't go on.
-    fn walk_items<N: SearchBrand, G: Gate, R: Wait>(
+    // Lets the worker draw items of a round and walk them, until all are drawn. Settles walks where
+    // that can't wait, and keeps the others. Items that a quick search leaves out stay open.
+    // Answers how the worker ended; `None` where it can walk the next round.
+    fn draw_and_walk<N: SearchBrand, G: Gate, R: Wait>(
         &mut self,
         rt: &R,
         shared: &Shared<N, G>,
@@ -234,7 +230,7 @@ impl SeatedWorker {
                 return Some(Exit::OutOfMemory);
             };
             shared.gate.walked(self.worker.number, place as u64);
-            let settled = self.settle_early(rt, shared, round, item, is_bad);
+            let settled = self.settle_if_due(rt, shared, round, item, is_bad);
             if settled.is_err() {
                 return Some(Exit::OutOfMemory);
             }
@@ -243,9 +239,9 @@ impl SeatedWorker {
     }
 }
 
-/// Lets all workers walk shared rounds, each in a thread of its own. Those for which no thread can
-/// be made do so one after another.
-pub(crate) fn work_all<N: SearchBrand + Send + Sync, G: Gate, R: Threads + Wait + Sync>(
+/// Runs all workers, each in a thread of its own: they walk rounds that they share, and settle the
+/// walks. Those for which no thread can be made do so one after another.
+pub(crate) fn run_workers<N: SearchBrand + Send + Sync, G: Gate, R: Threads + Wait + Sync>(
     rt: &R,
     shared: &Shared<N, G>,
     workers: &mut Vec<SeatedWorker>,
@@ -264,8 +260,7 @@ pub(crate) fn work_all<N: SearchBrand + Send + Sync, G: Gate, R: Threads + Wait 
     thread::for_each_mut(rt, workers.as_mut_slice(), WORKERS as usize, &one);
 }
 
-/// How the workers ended together: out of memory where one of them was, else stopped where one of
-/// them was.
+/// How the workers ended, as one: out of memory where one of them was, else stopped where one was.
 pub(crate) fn exit_of(workers: &[SeatedWorker]) -> Exit
     ensures stopped { result ≡ Stopped → Any (λ w. w.exit ≡ Stopped) workers.now }
     ensures memory { result ≡ OutOfMemory → Any (λ w. w.exit ≡ OutOfMemory) workers.now }

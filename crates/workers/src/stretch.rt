@@ -1,4 +1,4 @@
-//! A stretch of rounds: those between which nothing has to be judged. Its threads are made once.
+//! Stretches of rounds, for each of which workers' threads are made once.
 
 ghost use Rattle.std.specs.Prelude.{◌≡◌, ◌≤◌, true, vec_len, IfOk};
 ghost use Rattle.std.specs.List.{All};
@@ -11,7 +11,7 @@ use crate::desk::Desk;
 use crate::exit::Exit;
 use crate::gate::Gate;
 use crate::monitor::Monitor;
-use crate::seated_worker::{SeatedWorker, Shared, exit_of, work_all};
+use crate::seated_worker::{SeatedWorker, Shared, exit_of, run_workers};
 use crate::team::Team;
 use crate::worker::Worker;
 use board::{Board, Seat};
@@ -22,7 +22,7 @@ use std::alloc::{AllocError, Global};
 use std::sync::{Arc, Wait};
 use std::thread::Threads;
 
-/// A stretch: the book of its rounds, the board of its items' numbers, and a worker for each seat.
+/// A stretch of rounds: the book, a board of its items' numbers, and a worker for each seat.
 #[derive(Drop)]
 pub(crate) struct Stretch {
     pub book: Book,
@@ -30,7 +30,7 @@ pub(crate) struct Stretch {
     pub seated: Vec<SeatedWorker>,
 }
 
-// Gives each worker of a program a seat of a board.
+// Gives each of a program's workers a seat at a board. There are as many seats as workers.
 fn assign_seats(
     alloc: Global,
     board: &Board,
@@ -60,8 +60,9 @@ fn assign_seats(
     Ok(seated)
 }
 
-// Takes workers off their seats: answers the seats, for the board to end, and the workers, to keep.
-fn collect_seats<N: SearchBrand>(
+// Takes workers from their seats. Answers the seats, which the board gathers in the end, and the
+// workers.
+fn unseat_workers<N: SearchBrand>(
     alloc: Global,
     board: &Board,
     seated: Vec<SeatedWorker>,
@@ -83,7 +84,7 @@ fn collect_seats<N: SearchBrand>(
 }
 
 impl Stretch {
-    /// A stretch of rounds of a team, whose workers have these seats of a board.
+    /// A stretch of rounds of a team, whose workers are given these seats of a board.
     pub fn new(
         alloc: Global,
         team: Team,
@@ -107,9 +108,12 @@ impl Stretch {
         })
     }
 
-    /// Walks the rounds of the stretch, and settles the walks, by all the workers: each in a
-    /// thread, which goes from round to round. Answers the team, and how the workers ended.
-    pub fn walk<N: SearchBrand + Send + Sync, G: Gate, R: Threads + Wait + Sync>(
+    /// Runs the workers, each in a thread of its own, on rounds of the book's open items that they
+    /// share: they walk the items, and settle the walks in the book. They go on from round to round
+    /// until no item or at least `own_from` are open, the limit of `options` on schedules tried is
+    /// reached, the gate stops a worker, or a quick search finds a bad schedule. Answers the team,
+    /// and how its workers ended.
+    pub fn run<N: SearchBrand + Send + Sync, G: Gate, R: Threads + Wait + Sync>(
         self,
         rt: &R,
         alloc: Global,
@@ -136,10 +140,11 @@ impl Stretch {
             board,
             monitor: Monitor::new(desk),
         };
-        work_all(rt, &shared, &mut seated);
+        run_workers(rt, &shared, &mut seated);
         let exit = exit_of(seated.as_slice());
         let Shared { board, monitor, .. } = shared;
-        let (seats, workers) = collect_seats::<N>(alloc, &board, seated)?;
+        let (seats, workers) = unseat_workers::<N>(alloc, &board, seated)?;
+        // A board ends with its seats gathered; what they counted isn't needed.
         let _claims = board.gather(seats);
         let book = monitor.mutex.into_inner().into_book();
         Ok((Team { book, workers }, exit))

@@ -1,4 +1,4 @@
-//! The search of several workers, between the stretches of rounds that they walk together.
+//! The book and the workers of a search, between the stretches of rounds that they walk.
 
 ghost use Rattle.std.specs.Prelude.{◌≡◌, ◌<◌, ◌≤◌, true, false, IfOk, IfErr, IfSome};
 ghost use Rattle.workers.specs.declared.limits.TheConstants.{WORKERS};
@@ -8,7 +8,7 @@ ghost use Rattle.workers.specs.Teams.{IsOf, IsTeam};
 
 use crate::exit::Exit;
 use crate::gate::{Answer, Gate};
-use crate::own_rounds::walk_own_rounds;
+use crate::own_rounds::run_own_rounds;
 use crate::stretch::Stretch;
 use crate::worker::Worker;
 use board::Board;
@@ -22,7 +22,7 @@ use std::sync::{Arc, Wait};
 use std::thread::Threads;
 use walk::walker::walk;
 
-/// A search's book and its workers: all that is kept from one stretch to the next.
+/// A search's book and its workers: what is kept from one stretch of rounds to the next.
 #[derive(Drop)]
 pub struct Team {
     /// The book of the search.
@@ -30,12 +30,10 @@ pub struct Team {
     pub(crate) workers: Vec<Worker>,
 }
 
-// Walks a round of a book in the items' order, and settles each walk, as the team's first worker.
-//
-// # Errors
-//
-// `AllocError` where memory runs out.
-fn walk_in_order<G: Gate>(
+// Walks the items of a book's next round in order, in this thread, each up to `quota` schedules,
+// and settles each walk before the next. The gate is asked and told as if worker 0 walked them.
+// Answers `Stopped` where it stopped the worker, and leaves the other items open, else `Finished`.
+fn walk_and_settle_in_order<G: Gate>(
     alloc: Global,
     gate: &G,
     book: &mut Book,
@@ -60,8 +58,10 @@ fn walk_in_order<G: Gate>(
     Ok(Exit::Finished)
 }
 
-// From how many open items on each worker has rounds of its own, if workers may have such rounds.
-fn own_rounds_from<G: Gate>(gate: &G, book: &Book, workers: usize) -> Option<usize>
+// How many items have to be open for each worker to have rounds of its own: a full round for each.
+// `None` where workers have to share rounds: the gate may stop them, the book dropped items, or a
+// quick search found a bad schedule; also where the number is too great for a `usize`.
+fn own_rounds_threshold<G: Gate>(gate: &G, book: &Book, workers: usize) -> Option<usize>
     ensures open { IfSome result (λ _. G.stops gate.now ≡ false) }
     ensures all { IfSome result (λ _. book.now.dropped ≡ false) }
 {
@@ -73,7 +73,7 @@ fn own_rounds_from<G: Gate>(gate: &G, book: &Book, workers: usize) -> Option<usi
 }
 
 impl Team {
-    /// A team of workers for the search of a book.
+    /// A team of a book and `count` workers, which are numbered from 0.
     pub fn new(alloc: Global, book: Book, count: u32) -> Result<Team, AllocError>
         requires { (0 < count) × (count ≤ WORKERS) }
         ensures book { IfOk result (λ t. t.book ≡ book) }
@@ -87,13 +87,20 @@ impl Team {
         Ok(Team { book, workers })
     }
 
-    /// Walks a stretch of rounds, at least one, and settles the walks, until what follows the last
-    /// round has to be judged, or workers may have rounds of their own from there on. The book is
-    /// of the same search then; all else that is known of the book is in its type.
-    /// Where the gate may not stop, a round of items is open for each worker and a quick search has
-    /// found no bad schedule, rounds are the workers' own, lent by the book. Else all share each
-    /// round; where there is no memory for a board, the first worker walks a stretch of one round.
-    pub fn walk_rounds<G: Gate, R: Threads + Wait + Sync>(
+    /// Walks one round of the book's open items or more, and settles the walks in the book. Ends
+    /// after a round where no item is open any more, the limit is reached, the gate stopped a
+    /// worker, or a quick search found a bad schedule: then the caller decides how the search goes
+    /// on. Ends also where workers shared a round and may now have rounds of their own.
+    ///
+    /// Workers have rounds of their own, of items that the book lends to each, where the gate may
+    /// not stop, enough items are open for a full round for each, and a quick search has neither
+    /// found a bad schedule nor dropped an item. Else they share each round. Where there is no
+    /// memory for the board that sharing takes, one round is walked in this thread alone.
+    ///
+    /// # Errors
+    ///
+    /// `OutOfMemory` where memory runs out.
+    pub fn walk_and_settle_rounds<G: Gate, R: Threads + Wait + Sync>(
         mut self,
         rt: &R,
         alloc: Global,
@@ -108,19 +115,19 @@ impl Team {
         ensures stopped { IfOk result (λ r. r.1 ≡ Stopped → G.stops gate.now ≡ true) }
         ensures error { IfErr result (λ e. e ≡ OutOfMemory) }
     {
-        let own_from = match own_rounds_from(gate, &self.book, self.workers.len()) {
+        let own_from = match own_rounds_threshold(gate, &self.book, self.workers.len()) {
             Some(from) if self.book.open_len() >= from => {
-                let team = walk_own_rounds::<Brand, G, R>(self, rt, alloc, gate, options)?;
+                let team = run_own_rounds::<Brand, G, R>(self, rt, alloc, gate, options)?;
                 return Ok((team, Exit::Finished));
             }
             Some(from) => from,
             None => usize::MAX,
         };
         let Ok((board, seats)) = Board::new(alloc, u32::MAX, self.workers.len() as u32) else {
-            let exit = walk_in_order(alloc, gate, &mut self.book, options.quota)?;
+            let exit = walk_and_settle_in_order(alloc, gate, &mut self.book, options.quota)?;
             return Ok((self, exit));
         };
         let stretch = Stretch::new(alloc, self, board, seats)?;
-        Ok(stretch.walk::<Brand, G, R>(rt, alloc, gate, options, own_from)?)
+        Ok(stretch.run::<Brand, G, R>(rt, alloc, gate, options, own_from)?)
     }
 }

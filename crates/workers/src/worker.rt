@@ -1,4 +1,4 @@
-//! Workers, and what their walks found.
+//! Workers, and what their walks found that isn't settled yet.
 
 ghost use Rattle.std.specs.Prelude.{◌≡◌, ◌<◌, false, [], vec_len, IfOk, OnOk};
 ghost use Rattle.std.specs.Arc.{arc_value};
@@ -14,20 +14,20 @@ use std::sync::Arc;
 use walk::found::Found;
 use walk::walker::Walker;
 
-/// A worker: its walker, the places in a round of the items that it walked and that aren't settled
-/// yet, and what all these walks found. Items are lent to its number.
+/// A worker: its walker, the indexes in a round of the items that it walked and that aren't settled
+/// yet, and what these walks found. Its number is the one that items are lent to.
 #[derive(Drop)]
 pub(crate) struct Worker {
     pub walker: Walker,
     pub places: Vec<usize>,
     pub found: Found,
     pub number: u32,
-    /// Padding before what follows in memory, which is another worker's.
+    /// Padding: what follows in memory is another worker's.
     pub padding: [u64; PADDING_WORDS],
 }
 
 impl Worker {
-    /// A worker with this number, for a program, that keeps no walk.
+    /// A worker with this number, for a program. It keeps no walk.
     pub fn new(alloc: Global, program: Arc<Program>, number: u32) -> Result<Worker, AllocError>
         ensures { IfOk result (λ b. b.walker ≡ arc_value program) }
     {
@@ -40,8 +40,9 @@ impl Worker {
         })
     }
 
-    /// Forgets the worker's walks. Later ones, in their memory, list what is put off if `lists`.
-    pub fn forget(&mut self, lists: bool)
+    /// Forgets the walks that the worker keeps, whose memory serves later ones. `lists` says
+    /// whether prefixes that later walks defer are to be listed.
+    pub fn clear(&mut self, lists: bool)
         ensures walker { self.new.walker ≡ self.old.walker }
         ensures places { self.new.places.items ≡ [] }
         ensures kept { (r : Round) → AreKept r self.new }
@@ -57,8 +58,9 @@ impl Worker {
         self.places.len() >= KEPT_WALKS
     }
 
-    // Walks the item at a place of a round, and keeps the walk.
-    fn walk_on(&mut self, alloc: Global, round: &Round, place: usize) -> Result<(), AllocError>
+    // Walks the item with this index in a round, and keeps the walk, to be settled later. Where
+    // memory runs out, the caller has to clear the worker.
+    fn walk_item(&mut self, alloc: Global, round: &Round, place: usize) -> Result<(), AllocError>
         requires round { IsRoundOf self.old.walker round.now.mode round.now }
         requires place { place < vec_len round.now.items }
         requires room { vec_len self.old.places < KEPT_WALKS }
@@ -68,13 +70,13 @@ impl Worker {
     {
         let item = &round.items[place];
         self.walker
-            .walk_on(alloc, &mut self.found, item, round.mode, round.quota)?;
+            .walk_into(alloc, &mut self.found, item, round.mode, round.quota)?;
         self.places.push(place)?;
         Ok(())
     }
 
-    /// Walks the item at a place of a round, and keeps the walk. Answers whether a bad schedule was
-    /// found in the walks that the worker keeps.
+    /// Walks the item with this index in a round, and keeps the walk, to be settled later. Answers
+    /// whether the walks that the worker keeps found a bad schedule.
     ///
     /// # Errors
     ///
@@ -87,8 +89,8 @@ impl Worker {
         ensures walker { self.new.walker ≡ self.old.walker }
         ensures kept { AreKept round.now self.new }
     {
-        if let Err(error) = self.walk_on(alloc, round, place) {
-            self.forget(round.lists);
+        if let Err(error) = self.walk_item(alloc, round, place) {
+            self.clear(round.lists);
             return Err(error);
         }
         Ok(self.found.part.first_bad().is_some())

@@ -5,8 +5,8 @@ use Rattle.semantics.specs.declared.undo.Undo.{Undo}
 use Rattle.semantics.specs.Machine.{Snapshot}
 use Rattle.semantics.specs.Reachable.{IsOf}
 use Rattle.semantics.specs.Undoing.{undone, IsRecordOf}
-use Rattle.lint.specs.declared.deep.Frame.{Frame}
-use Rattle.lint.specs.declared.deep.Tour.{Tour}
+use Rattle.lint.specs.declared.exploration.Frame.{Frame}
+use Rattle.lint.specs.declared.exploration.Exploration.{Exploration}
 
 -- by this record a state goes back to the one before it
 pub record TakesBack (p : Program) (u : Undo) (old new : Snapshot) : Type 0 where
@@ -20,6 +20,6 @@ Stacked p [] s = Unit {0}
 Stacked p (f ∷ fs) s = IsRecordOf f.undo s × IsOf p (undone f.undo s)
     × Stacked p fs (undone f.undo s)
 
-pub record IsTour (p : Program) (t : Tour) : Type 0 where
+pub record IsExploration (p : Program) (t : Exploration) : Type 0 where
   pub of : IsOf p t.state
   pub steps : Stacked p (reverse t.frames.items) t.state

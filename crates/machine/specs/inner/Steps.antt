@@ -14,7 +14,7 @@ use Rattle.machine.specs.Refinement.{IsControl, AreQueues, HasObjects}
 use Rattle.machine.specs.inner.Parts.{IsControlBut, IsLeaving}
 use Rattle.machine.specs.inner.LocalRuns.{narrow}
 
--- the cells are those of these variables, and of these queues behind them
+-- the cells are those of these variables, and of these queues after them
 pub record AreShared (lengths : List ℕ) (cells vars : List ℤ) (queues : List (List ℕ))
     : Type 0 where
   pub variables : take (length vars) cells ≡ vars

@@ -1,4 +1,4 @@
-//! The step of a thread, over the values of the variables and its own locals.
+//! Steps and runs of a thread, on the control, the values of the variables, and its own locals.
 
 ghost use Rattle.std.specs.Prelude.{◌≡◌, ◌<◌, ◌≤◌, ◌^◌, ◌*◌, ℕ, ℤ, ◌+◌, List, take, true, false, length, slice_get, slice_index_or, slice_set, replicate, pos, Some, All, IsTrue, IsFalse};
 ghost use Rattle.guest_code.specs.declared.limits.TheConstants.{INSTRUCTIONS};
@@ -25,7 +25,7 @@ use guest_code::program::{Instruction, Program};
 use semantics::mask::Mask;
 use semantics::state::VariableAction::{Add as Adds, Cas as Swaps, Load as Loads, Store as Stores};
 use semantics::state::{Status, Stop, VariableAction};
-use semantics::{Landing, Turn, access, next_local, run_local};
+use semantics::{Landing, Turn, access, run_if_local, run_local};
 
 // A thread in the midst of a run: where it is, with which status, after how many steps, and the
 // threads that were enabled after each of them but the last.
@@ -38,7 +38,8 @@ pub(crate) struct MovingThread {
     among: Mask,
 }
 
-// The place where a thread goes on that got this status by the step of the instruction at `place`.
+// The place of a thread that has this status after its step at the instruction number `place`: the
+// next instruction where it runs, else, where it waits or has stopped, the same one.
 fn place_after(status: Status, place: usize) -> usize
     requires { place < 2 ^ 16 }
     ensures { result ≡ place_after status place }
@@ -49,30 +50,35 @@ fn place_after(status: Status, place: usize) -> usize
     }
 }
 
-// Whether a run may go on after its first step: the thread is alone then, and still running.
-fn can_go_on(alone: bool, status: Status) -> bool
+// Whether a run, steps that one thread takes in a row, may have more than the first step. It may
+// where `alone` is true, so that no other thread may step while this one can, and where `status`,
+// this thread's after the first step, is `Running`: it neither waits nor has stopped.
+fn may_extend_run(alone: bool, status: Status) -> bool
     ensures alone { alone ≡ false → result ≡ false }
     ensures running { IsTrue result → status ≡ Running }
 {
     alone && status == Status::Running
 }
 
-// Whether a run is over after `steps` steps: others are `enabled` than after its first, `among`.
-fn is_run_over(steps: u32, among: Mask, enabled: Mask) -> bool
+// Whether the set of the enabled threads has changed since the first step of a run, so that the run
+// is over: the threads `enabled` now aren't those after that step, which `among` holds. False where
+// `steps`, the number of steps that the run has taken, is 1: `among` is not set yet.
+fn enabled_set_changed(steps: u32, among: Mask, enabled: Mask) -> bool
     ensures { IsFalse result → 1 < steps → enabled ≡ among }
 {
     among != enabled && steps > 1
 }
 
-// The number of the cell, among the values, that holds the queue of a condition.
-fn queue_cell(program: &Program, condition: usize) -> usize
+// The index of a condition's queue among a machine's values, where queues come after the variables.
+fn queue_index(program: &Program, condition: usize) -> usize
     requires { condition < OBJECTS }
     ensures { result ≡ length program.now.variables + condition }
 {
     program.variables() as usize + condition
 }
 
-// Lets a thread, whose locals are `own`, act on a variable. Answers its status then: it runs on.
+// Does a thread's action on a variable. `shared` has the variables' values, `own` those of the
+// thread's locals. Answers the thread's status after that: it runs on.
 #[inline(always)]
 fn access_variable(
     shared: &mut [i64],
@@ -92,7 +98,8 @@ fn access_variable(
 }
 
 impl Control {
-    // Takes the first step of a `wait`: the thread joins the `queue`. Answers its status then.
+    // Takes the first step of a `wait`: the thread frees the mutex and joins the condition's
+    // `queue`, or stops if it isn't the mutex's owner. Answers its status after that.
     fn begin_wait(&mut self, queue: &mut i64, thread: u8, condition: usize, mutex: usize) -> Status
         requires thread { thread < THREADS }
         requires ready { (p : Program) × (s : Snapshot) × (cells : List ℤ) × (mine : List ℤ)
@@ -111,7 +118,8 @@ impl Control {
         Status::Waiting(condition as u8)
     }
 
-    // Takes the step of `unlock`. Answers the thread's status then: stopped if it isn't the owner.
+    // Takes the step of an `unlock`: the thread frees the mutex, or stops if it isn't the mutex's
+    // owner. Answers the thread's status after that.
     fn unlock(&mut self, thread: u8, mutex: usize) -> Status
         requires thread { thread < THREADS }
         requires ready { (p : Program) × (s : Snapshot) × (cells : List ℤ) × (mine : List ℤ)
@@ -127,8 +135,9 @@ impl Control {
         Status::Running
     }
 
-    // Takes the step of `release`. Answers the thread's status then: stopped at the greatest count.
-    fn release_if_room(&mut self, _thread: u8, semaphore: usize) -> Status
+    // Takes the step of a `release`: the semaphore's count rises by 1, or the thread stops if the
+    // count is the greatest already. Answers the thread's status after that.
+    fn release_or_stop(&mut self, _thread: u8, semaphore: usize) -> Status
         requires ready { (p : Program) × (s : Snapshot) × (cells : List ℤ) × (mine : List ℤ)
             × IsWellFormed p × IsPoised p s _thread (Release semaphore) self.old cells mine }
         ensures { (p : Program) → (s : Snapshot) → (cells : List ℤ) → (mine : List ℤ)
@@ -142,7 +151,8 @@ impl Control {
         Status::Running
     }
 
-    // Takes the step of a `signal`, which wakes the first thread in the `queue` of condition `c`.
+    // Takes the step of a `signal`: takes the first thread, if any, out of the `queue` of the
+    // condition `c`, and wakes it. Answers the status of the thread that signals: it runs on.
     fn signal(&mut self, program: &Program, queue: i64, thread: u8, c: usize) -> Status
         requires thread { thread < length program.now.threads }
         requires ready { (s : Snapshot) × (cells : List ℤ) × (mine : List ℤ)
@@ -161,7 +171,8 @@ impl Control {
         Status::Running
     }
 
-    // Takes the step of a `broadcast`, which wakes all threads in the `queue` of the condition `c`.
+    // Takes the step of a `broadcast`: takes all threads out of the `queue` of the condition `c`,
+    // and wakes them. Answers the status of the thread that broadcasts: it runs on.
     fn broadcast(&mut self, program: &Program, queue: i64, thread: u8, c: usize) -> Status
         requires thread { thread < length program.now.threads }
         requires ready { (s : Snapshot) × (cells : List ℤ) × (mine : List ℤ)
@@ -180,7 +191,9 @@ impl Control {
         Status::Running
     }
 
-    // Takes a running thread's visible action, but no local run after it. Answers its status then.
+    // Takes the step of a running thread at this visible instruction, without the local run after
+    // it. `own` are the thread's locals, `shared` the values of the variables and the queues.
+    // Answers the thread's status after the step. For a local instruction does nothing.
     #[inline(always)]
     fn perform(
         &mut self,
@@ -225,22 +238,23 @@ impl Control {
                 self.acquire(thread, *k);
                 Status::Running
             }
-            Instruction::Release(k) => self.release_if_room(thread, *k),
+            Instruction::Release(k) => self.release_or_stop(thread, *k),
             Instruction::Wait { condition, mutex } => {
-                let cell = queue_cell(program, *condition);
-                self.begin_wait(&mut shared[cell], thread, *condition, *mutex)
+                let index = queue_index(program, *condition);
+                self.begin_wait(&mut shared[index], thread, *condition, *mutex)
             }
             Instruction::Signal(c) => {
-                self.signal(program, shared[queue_cell(program, *c)], thread, *c)
+                self.signal(program, shared[queue_index(program, *c)], thread, *c)
             }
             Instruction::Broadcast(c) => {
-                self.broadcast(program, shared[queue_cell(program, *c)], thread, *c)
+                self.broadcast(program, shared[queue_index(program, *c)], thread, *c)
             }
             _ => Status::Running,
         }
     }
 
-    // A woken thread takes the mutex of its `wait` again, but no local run after that.
+    // Takes the step of a woken thread, without the local run after it: the thread takes the mutex
+    // of its `wait`, the instruction where it is, again.
     fn retake(&mut self, thread: u8, instruction: &Instruction)
         requires thread { thread < THREADS }
         requires ready { (p : Program) × IsWellFormed p × IsValid p instruction.now }
@@ -256,7 +270,9 @@ impl Control {
         }
     }
 
-    // Takes the step of an enabled thread, but no local run after it. Answers its status then.
+    // Takes the step of an enabled thread, which is at this instruction, without the local run
+    // after it: a woken one takes its mutex again. `own` are the thread's locals, `shared` the
+    // values of the variables and the queues. Answers the thread's status after the step.
     #[inline(always)]
     fn take_step(
         &mut self,
@@ -274,14 +290,15 @@ impl Control {
             → IsPerformed program.now s thread self.new shared.new own.new result }
     {
         program.keeps_limits();
-        if self.woken.contains(thread) {
+        if self.woken.has(thread) {
             self.retake(thread, instruction);
             return Status::Running;
         }
         self.perform(program, shared, own, thread, instruction)
     }
 
-    // Whether the mutexes and semaphores let a running thread take the step of this instruction.
+    // Whether a running thread can take the step of this instruction: the mutex that it locks is
+    // free, the count that it lowers is above 0. False for a local instruction, else true.
     fn can_perform(&self, instruction: &Instruction) -> bool
         requires { (p : Program) × IsValid p instruction.now × IsWellFormed p }
         ensures { (s : Snapshot) → HasObjects self.now s
@@ -298,10 +315,12 @@ impl Control {
         }
     }
 
-    // Takes a further step of a run whose thread is at a visible statement it may take. False where
-    // the run is over: others are enabled than after its first step, or the thread runs no more.
+    // Takes a further step of a run, whose thread is at a visible instruction that it can perform,
+    // so that it is enabled. False where the run is over: where other threads are enabled than
+    // after its first step, so that the step isn't taken, or where the step leaves the thread
+    // waiting or stopped. `own` are its locals, `shared` the variables' values and the queues.
     #[inline(always)]
-    fn take_further_step(
+    fn try_further_step(
         &mut self,
         program: &Program,
         code: &[Instruction],
@@ -325,7 +344,7 @@ impl Control {
     {
         program.keeps_limits();
         let enabled = self.enabled.with(moving.thread, true);
-        if is_run_over(moving.steps, moving.among, enabled) {
+        if enabled_set_changed(moving.steps, moving.among, enabled) {
             return false;
         }
         moving.among = enabled;
@@ -337,9 +356,12 @@ impl Control {
         status == Status::Running
     }
 
-    // Runs a local or visible instruction of a run after its first step. False if the run is over.
+    // Runs the next instruction of a run after its first step, be it local or visible. False where
+    // the run is over: an assertion fails, the code ends, the thread waits, stops or can't take the
+    // step, or other threads are enabled than after the first step. `own` are the thread's locals,
+    // `shared` the values of the variables and the queues.
     #[inline(always)]
-    fn run_instruction(
+    fn try_instruction(
         &mut self,
         program: &Program,
         code: &[Instruction],
@@ -360,21 +382,22 @@ impl Control {
             → IsGoing program.now s moving.old.thread self.new shared.new own.new moving.new }
     {
         program.keeps_limits();
-        match next_local(code, own, moving.place) {
+        match run_if_local(code, own, moving.place) {
             Turn::Runs(next) => {
                 moving.place = next;
                 true
             }
             Turn::Takes => {
                 self.can_perform(&code[moving.place])
-                    && self.take_further_step(program, code, shared, own, moving)
+                    && self.try_further_step(program, code, shared, own, moving)
             }
-            Turn::Visible => self.take_further_step(program, code, shared, own, moving),
+            Turn::Visible => self.try_further_step(program, code, shared, own, moving),
             Turn::Fails | Turn::Ends => false,
         }
     }
 
-    // Lets the thread of a run land after the last step, by a local run if its status is running.
+    // Ends a run after its last step: takes the thread's local run, on its locals `own`, if the
+    // thread is running, and sets the thread's place and status in the control.
     #[inline(always)]
     fn finish_run(&mut self, code: &[Instruction], own: &mut [i64], moving: MovingThread)
         requires thread { moving.thread < THREADS }
@@ -391,9 +414,9 @@ impl Control {
         match moving.status {
             Status::Running => {
                 let at = run_local(code, own, moving.place, Status::Running);
-                self.arrive(code, moving.thread, at);
+                self.place_thread(code, moving.thread, at);
             }
-            _ => self.arrive(
+            _ => self.place_thread(
                 code,
                 moving.thread,
                 Landing {
@@ -405,8 +428,9 @@ impl Control {
         }
     }
 
-    // Runs an enabled thread, whose locals are `own`: a step, and where it is alone further ones,
-    // while the same threads stay enabled. `shared` are the values of the variables and the queues.
+    // Takes a step of an enabled thread and, where it is `alone`, since no other may step while it
+    // can, further ones, while it is enabled and the same threads are enabled as after its first
+    // step. `own` are its locals, `shared` the values of the variables and the queues.
     #[inline(always)]
     fn run(
         &mut self,
@@ -437,9 +461,9 @@ impl Control {
             steps: 1,
             among: Mask::empty(),
         };
-        let mut going = can_go_on(alone, status);
+        let mut going = may_extend_run(alone, status);
         while going {
-            going = self.run_instruction(program, code, shared, own, &mut moving);
+            going = self.try_instruction(program, code, shared, own, &mut moving);
         }
         self.finish_run(code, own, moving);
         Run {
@@ -449,7 +473,9 @@ impl Control {
         }
     }
 
-    /// Runs an enabled thread over a machine's values, in the order of `shape`. Takes no memory.
+    /// Takes a step of an enabled thread, and further ones where it is `alone`, as
+    /// [`Machine::run`](crate::Machine::run) does. `values` are all of a machine's: those of the
+    /// variables, the queues, and then `shape.width` locals for each thread. Takes no memory.
     #[inline(always)]
     pub(crate) fn run_on_values(
         &mut self,

@@ -4,13 +4,13 @@ ghost use Rattle.messages.specs.Lines.{span_lines, remark_lines, note_lines, dia
 ghost use Rattle.messages.specs.Puts.{Puts};
 
 use crate::message::{
-    Diagnostic, Note, Span, first_shown, line_of, put_margin, put_marks, put_message_line,
+    Diagnostic, Note, Span, first_shown_index, line_of, put_margin, put_marks, put_message_line,
     put_source_line,
 };
 use std::alloc::AllocError;
 
-// Adds the source line of a span, and below it marks under the bytes of the span, with the message
-// `said` after them.
+// Adds to `out` the source line of a span, and below it the byte `mark` under each of the span's
+// bytes, with the message `said` after these marks.
 fn put_span(
     out: &mut Vec<u8>,
     text: &[u8],
@@ -22,15 +22,15 @@ fn put_span(
 {
     let line = line_of(text, span.at.line);
     let column = (span.at.col as usize).saturating_sub(1);
-    let from = first_shown(line.len(), column);
+    let from = first_shown_index(line.len(), column);
     put_margin(out, span.at.line)?;
     put_source_line(out, line, from)?;
     put_marks(out, column.saturating_sub(from), span.length, mark)?;
     put_message_line(out, b" ", said)
 }
 
-// Adds the message `said` of a diagnostic or a note: with the source line and marks under the bytes
-// of the span, if there is one, else alone.
+// Adds to `out` the message `said` of a diagnostic or a note: with the source line and the byte
+// `mark` under the bytes of the span, if there is one, else alone.
 fn put_message(
     out: &mut Vec<u8>,
     text: &[u8],
@@ -46,7 +46,7 @@ fn put_message(
     }
 }
 
-// Adds the lines of notes on a text, one note after the other.
+// Adds to `out` the lines of notes on a text, in order, with dashes under the bytes of their spans.
 fn put_notes(out: &mut Vec<u8>, text: &[u8], notes: &[Note]) -> Result<(), AllocError>
     ensures { Puts result out.old out.new (note_lines text.now notes.now) }
 {
@@ -57,8 +57,8 @@ fn put_notes(out: &mut Vec<u8>, text: &[u8], notes: &[Note]) -> Result<(), Alloc
 }
 
 impl Diagnostic {
-    /// Adds the lines of a diagnostic on a text: the short form, the source line with carets under
-    /// the bytes that are meant, the message, and the notes.
+    /// Adds to `out` the lines of a diagnostic on a text: the headline, the source line with carets
+    /// under the bytes of the span, if there is one, the message, and the notes.
     ///
     /// # Errors
     ///

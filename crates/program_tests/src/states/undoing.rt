@@ -11,8 +11,9 @@ use std::alloc::{AllocError, Global};
 use std::process::Abort;
 use std::test::*;
 
-// Whether two states of a program have the same threads at the first two places of the first queue.
-fn same_queues(first: &State, second: &State, p: &Program) -> bool
+// Whether the first condition's queue has the same threads at its first two places in two states;
+// true where a program has no condition.
+fn same_first_queue(first: &State, second: &State, p: &Program) -> bool
     requires first { IsOf p.now first.now }
     requires second { IsOf p.now second.now }
 {
@@ -20,8 +21,9 @@ fn same_queues(first: &State, second: &State, p: &Program) -> bool
         || (first.queued(0, 0), first.queued(0, 1)) == (second.queued(0, 0), second.queued(0, 1))
 }
 
-// Whether the owner of the first mutex and the first count are the same in two states of a program.
-fn same_owners_and_counts(first: &State, second: &State, p: &Program) -> bool
+// Whether the first mutex, if any, has the same owner, and the first semaphore, if any, the same
+// count in two states.
+fn same_first_owner_and_count(first: &State, second: &State, p: &Program) -> bool
     requires first { IsOf p.now first.now }
     requires second { IsOf p.now second.now }
 {
@@ -30,7 +32,7 @@ fn same_owners_and_counts(first: &State, second: &State, p: &Program) -> bool
     owners && counts
 }
 
-// Whether all threads are the same in two states of a program.
+// Whether each thread of a program has the same `pc`, status and locals in two states.
 fn same_threads(first: &State, second: &State, p: &Program) -> bool
     requires first { IsOf p.now first.now }
     requires second { IsOf p.now second.now }
@@ -44,7 +46,8 @@ fn same_threads(first: &State, second: &State, p: &Program) -> bool
     true
 }
 
-// Whether a step of a thread that is taken back leaves the state as before.
+// Whether a copy of the state `before` has the same variables, threads, first queue, owner and
+// count again after the enabled thread `t` takes a step and that is taken back.
 fn is_taken_back(alloc: Global, p: &Program, before: &State, t: u8) -> Result<bool, AllocError>
     requires of { IsOf p.now before.now }
     requires enabled { IsTrue (is_enabled p.now before.now t) }
@@ -52,12 +55,14 @@ fn is_taken_back(alloc: Global, p: &Program, before: &State, t: u8) -> Result<bo
     let mut state = before.try_clone(alloc)?;
     let undo = state.step(p, t);
     state.undo(&undo);
-    let objects = same_queues(&state, before, p) && same_owners_and_counts(&state, before, p);
+    let objects = same_first_queue(&state, before, p)
+        && same_first_owner_and_count(&state, before, p);
     let variables = state.variables() == before.variables();
     Ok(objects && variables && same_threads(&state, before, p))
 }
 
-// Checks that each step of a schedule can be taken back.
+// Checks that each thread of a schedule is enabled in its turn, and that its step can be taken
+// back.
 fn check_undoing(
     rt: &impl Abort,
     alloc: Global,
@@ -67,7 +72,7 @@ fn check_undoing(
     let mut state = State::start(alloc, p)?;
     for t in schedule {
         assert!(rt;
-            state.enabled(p).contains(*t),
+            state.enabled(p).has(*t),
             "{t} of {schedule:?} is not enabled"
         );
         assert!(rt; is_taken_back(alloc, p, &state, *t)?, "{t} of {schedule:?}");
@@ -77,7 +82,7 @@ fn check_undoing(
 }
 
 // Checks that each step of a schedule of a text's program can be taken back.
-fn check_undoing_of(
+fn check_undoing_in_text(
     rt: &impl Abort,
     alloc: Global,
     text: &[u8],
@@ -99,16 +104,17 @@ const SIGNAL: &[u8] =
 /// A thread waits without the mutex of the wait.
 const UNHELD: &[u8] = b"mutex m; cond c; thread A { wait c m; } thread B { signal c; }";
 
+// Steps are taken back: a broadcast wakes two, a signal one, and a wait without its mutex stops.
 #[test]
 fn steps_on_conditions_are_taken_back(rt: HostRuntime) -> Result<(), Fail> {
-    check_undoing_of(
+    check_undoing_in_text(
         &rt,
         rt.alloc(),
         BROADCAST,
         &[0, 0, 1, 1, 2, 2, 2, 1, 1, 0, 0],
     )?;
-    check_undoing_of(&rt, rt.alloc(), SIGNAL, &[0, 0, 1, 1, 2, 2, 2, 0, 0])?;
-    check_undoing_of(&rt, rt.alloc(), UNHELD, &[1, 0])
+    check_undoing_in_text(&rt, rt.alloc(), SIGNAL, &[0, 0, 1, 1, 2, 2, 2, 0, 0])?;
+    check_undoing_in_text(&rt, rt.alloc(), UNHELD, &[1, 0])
 }
 
 /// A full semaphore stops a thread.
@@ -122,9 +128,11 @@ const UNITS: &[u8] =
 const LOCALS_WRITTEN: &[u8] =
     b"var x = 7; mutex m; thread A { set a 1; set b 2; lock m; cas c x 7 9; set a c + b; add b x a; store x b; unlock m; assert a == 4; } thread B { lock m; }";
 
+// Each step is taken back where a full semaphore stops a thread, where a count comes to 0 and back,
+// and where locals are written and an assertion on one fails.
 #[test]
 fn other_steps_are_taken_back(rt: HostRuntime) -> Result<(), Fail> {
-    check_undoing_of(&rt, rt.alloc(), FULL, &[0, 1])?;
-    check_undoing_of(&rt, rt.alloc(), UNITS, &[0, 0, 1, 1])?;
-    check_undoing_of(&rt, rt.alloc(), LOCALS_WRITTEN, &[0, 0, 0, 0, 0, 1])
+    check_undoing_in_text(&rt, rt.alloc(), FULL, &[0, 1])?;
+    check_undoing_in_text(&rt, rt.alloc(), UNITS, &[0, 0, 1, 1])?;
+    check_undoing_in_text(&rt, rt.alloc(), LOCALS_WRITTEN, &[0, 0, 0, 0, 0, 1])
 }

@@ -34,7 +34,7 @@ pub record HasPassedBounds (p : Program) (bound : ℕ) : Type 0 where
   pub none : NoBadBelow p bound
   pub past : (b : ℕ) → b < bound → SomeExceeds p b
 
--- the first mode of a search at which something is tried of what is under a prefix with so many
+-- the first mode of a search at which something is tried of what is under a prefix with this many
 -- preemptions
 abbrev pub first_mode : Search → ℕ → Mode
 first_mode (UpTo last) preemptions = Bounded preemptions

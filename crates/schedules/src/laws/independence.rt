@@ -24,8 +24,8 @@ ghost use Rattle.semantics.specs.View.{View};
 
 // Independent steps.
 
-/// Independence is symmetric, and no thread's step is independent of itself or of a thread that has
-/// nothing to do.
+/// Independence of next steps is symmetric, and no thread's next step is independent of itself, or
+/// of a thread that has no next step.
 pub fn independence_is_symmetric()
     ensures either_order { (p : Program) (s : Snapshot) (t v : ℕ) →
         independent p s t v ≡ independent p s v t }
@@ -47,9 +47,8 @@ pub fn dependent_means_a_shared_object()
 
 /// What the step of each instruction accesses: a load reads its variable; a store, an `add` and a
 /// `cas` write it, a `cas` also where it misses; lock, unlock and taking the mutex again write the
-/// mutex, a wait writes its condition and its mutex, a
-/// signal and a broadcast write the condition, and acquire and release write the semaphore. The
-/// other instructions take no step.
+/// mutex, a wait writes its condition and its mutex, a signal and a broadcast write the condition,
+/// and acquire and release write the semaphore. The other instructions take no step.
 pub fn steps_access_these_objects()
     ensures load { (r x : ℕ) → accesses_at Running (Load r x) ≡ Some (reads_var x ∷ []) }
     ensures store { (x : ℕ) (a : Value) →
@@ -76,7 +75,7 @@ pub fn steps_access_these_objects()
         (accesses_at Running (SkipIfZero e n) ≡ None) × (accesses_at Running (Skip n) ≡ None) }
 {}
 
-/// Of two independent steps each leaves the other enabled.
+/// Of two independent steps of enabled threads each leaves the other thread enabled.
 pub fn independent_stay_enabled()
     ensures second { (p : Program) (s : Snapshot) (t v : ℕ) →
         is_enabled p s t ≡ true → is_enabled p s v ≡ true → independent p s t v ≡ true →
@@ -86,7 +85,7 @@ pub fn independent_stay_enabled()
         is_enabled p (step p s v) t ≡ true }
 {}
 
-/// Both orders of two independent steps lead to one state.
+/// Both orders of two independent steps of enabled threads lead to one state.
 pub fn independent_commute()
     ensures { (p : Program) (s : Snapshot) (t v : ℕ) →
         is_enabled p s t ≡ true → is_enabled p s v ≡ true → independent p s t v ≡ true →
@@ -95,9 +94,10 @@ pub fn independent_commute()
 
 // What sleep sets leave.
 
-/// What sleep sets leave is the empty schedule alone where nothing is enabled; else, for each
-/// enabled thread that doesn't sleep, in rising order, a step of it followed by what they leave
-/// from the state after that step.
+/// The reduced schedules from a state with the sleep set `Z`, those that sleep sets leave, are the
+/// empty one alone where no thread is enabled; else, for each enabled thread that isn't in `Z`, in
+/// rising order, a step of it followed by each reduced schedule from the state after that step,
+/// with the sleep set after it.
 pub fn reduced_schedules_unfold()
     ensures terminal { (p : Program) (s : Snapshot) (Z : ℕ → Bool) →
         is_terminal p s ≡ true → reduced_schedules p s Z ≡ [] ∷ [] }
@@ -108,7 +108,8 @@ pub fn reduced_schedules_unfold()
         (filter (λ t. not (Z t)) (enabled p s)) }
 {}
 
-/// The reduced schedules are exactly the complete ones that are kept.
+/// The reduced schedules from a state with the sleep set `Z` are exactly the complete ones that are
+/// kept: no step is of a thread in the sleep set before that step. Each kept schedule is complete.
 pub fn reduced_are_the_kept()
     ensures members { (p : Program) (s : Snapshot) (Z : ℕ → Bool) (w : List ℕ) →
         Contains (reduced_schedules p s Z) w
@@ -117,22 +118,24 @@ pub fn reduced_are_the_kept()
         is_kept p s Z w ≡ true → is_complete p s w ≡ true }
 {}
 
-/// Each complete schedule is kept, or an earlier one leads to the same state, or one that begins
-/// with a step of a sleeping thread does.
-pub fn sleep_sets_keep()
+/// Each complete schedule from a state with the sleep set `Z` is kept, unless a complete one that
+/// comes before it, or that begins with a step of a thread in `Z`, leads to the same state.
+pub fn pruned_schedules_are_redundant()
     ensures { (p : Program) (s : Snapshot) (Z : ℕ → Bool) (w : List ℕ) →
         is_complete p s w ≡ true →
         (is_kept p s Z w ≡ true) ⊎ (IsMetEarlier p s w ⊎ IsMetAsleep p s Z w) }
 {}
 
-/// The views at the ends of what sleep sets leave are those of all complete schedules.
+/// With an empty sleep set at the start, the end views of the schedules that sleep sets leave are
+/// those of all complete schedules.
 pub fn ends_are_kept()
     ensures { (p : Program) (s : Snapshot) (x : View) →
         Contains (map (end_from p s) (complete_schedules p s)) x
         ↔ Contains (map (end_from p s) (reduced_schedules p s none_asleep)) x }
 {}
 
-/// The least bad schedule of all is that of what sleep sets leave.
+/// With an empty sleep set at the start, the least bad one of all complete schedules is the least
+/// bad one of those that sleep sets leave; where no complete one is bad, neither has one.
 pub fn least_bad_is_kept()
     ensures { (p : Program) (s : Snapshot) →
         least (filter (ends_badly p s) (complete_schedules p s))

@@ -9,7 +9,7 @@ ghost use Rattle.schedules.specs.Schedules.{complete_schedules, begins_with};
 ghost use Rattle.schedules.specs.Order.{precedes, least, ends_badly};
 ghost use Rattle.schedules.specs.Rising.{IsRising};
 
-/// The order of schedules is strict, and of two different schedules one comes before the other.
+/// The order of schedules is strict and transitive, and of two different ones one comes first.
 pub fn order_is_total()
     ensures never_itself { (w : List ℕ) → precedes w w ≡ false }
     ensures later { (u v w : List ℕ) →
@@ -18,12 +18,13 @@ pub fn order_is_total()
         (v ≡ w) ⊎ ((precedes v w ≡ true) ⊎ (precedes w v ≡ true)) }
 {}
 
-/// The order of schedules is the one that slices of thread numbers have.
+/// The order of schedules is the one that slices of thread numbers have: lexicographic.
 pub fn order_is_that_of_slices()
     ensures { (v w : List ℕ) → precedes v w ≡ is_lt (slice_cmp nat_cmp v w) }
 {}
 
-/// Where two schedules part, the one that goes on with the smaller thread comes first.
+/// Of two schedules that are alike up to a step, the one whose step there is of the thread with the
+/// smaller number comes first.
 pub fn smaller_threads_come_first()
     ensures { (x v w : List ℕ) (t u : ℕ) →
         t < u → begins_with (x ++ t ∷ []) v ≡ true → begins_with (x ++ u ∷ []) w ≡ true →
@@ -39,8 +40,8 @@ pub fn least_is_minimal()
         Contains L m × ((w : List ℕ) → Contains L w → precedes w m ≡ false) }
 {}
 
-/// Of those members of a rising list that pass a test the least is the first one; so the least bad
-/// schedule is the first bad one of all.
+/// In a list in rising order, the least of the members that pass a test is the first of them; so
+/// the least bad schedule is the first bad one in the list of complete schedules.
 pub fn least_is_first()
     ensures rising { (L : List (List ℕ)) (test : List ℕ → Bool) →
         IsRising L → least (filter test L) ≡ slice_get (filter test L) 0 }

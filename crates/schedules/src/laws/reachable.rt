@@ -1,4 +1,4 @@
-//! What is so after each schedule.
+//! What holds of each state that a schedule leads to.
 
 ghost use Rattle.std.specs.Prelude.{◌≡◌, ℕ, List, true, Some};
 ghost use Rattle.guest_code.specs.Program.{Program, IsWellFormed};
@@ -8,13 +8,14 @@ ghost use Rattle.semantics.specs.Reachable.{IsOf};
 ghost use Rattle.semantics.specs.Waiters.{HasWaiters};
 ghost use Rattle.schedules.specs.Schedules.{runs, state_after};
 
-/// Each schedule of a program leads to a state of it.
+/// Each schedule that runs in a well formed program leads to a state of the program.
 pub fn schedules_stay_in_the_program()
     ensures { (p : Program) (w : List ℕ) →
         IsWellFormed p → runs p (start p) w ≡ true → IsOf p (state_after p (start p) w) }
 {}
 
-/// After each schedule, who is in a condition's queue waits for it, and is there once.
+/// After each schedule that runs, each thread in a condition's queue waits for that condition, and
+/// is in the queue once.
 pub fn queues_hold_waiters()
     ensures { (p : Program) (w : List ℕ) →
         runs p (start p) w ≡ true → HasWaiters (state_after p (start p) w) }

@@ -13,7 +13,8 @@ ghost use Rattle.schedules.specs.Rising.{IsRising, HasEachOnce, IsPrefixFree};
 
 // Enabled threads.
 
-/// The list of enabled threads has exactly those that are enabled; each is one of the state's.
+/// The list of the enabled threads of a state has exactly those that are enabled; each is a thread
+/// of the state.
 pub fn enabled_lists_exactly_the_enabled()
     ensures listed { (p : Program) (s : Snapshot) (t : ℕ) →
         (is_enabled p s t ≡ true) ↔ Contains (enabled p s) t }
@@ -29,12 +30,12 @@ pub fn terminal_means_none_enabled()
 
 // How long schedules are.
 
-/// A schedule has at most one step for each instruction, and one more for each `wait`.
+/// A schedule that runs has at most one step for each instruction, and one more for each `wait`.
 pub fn schedules_are_short()
     ensures { (p : Program) (w : List ℕ) → runs p (start p) w ≡ true → length w ≤ most_steps p }
 {}
 
-/// In a well formed program no schedule has more than `STEPS` steps.
+/// In a well formed program no schedule that runs has over `STEPS` steps; `limit` says how many.
 pub fn schedules_are_within_the_limit()
     ensures limit { STEPS ≡ 32768 }
     ensures within { (p : Program) (w : List ℕ) →
@@ -43,9 +44,9 @@ pub fn schedules_are_within_the_limit()
 
 // Complete schedules.
 
-/// The complete schedules from a state are the empty one alone where nothing is enabled; else, for
-/// each enabled thread in rising order, a step of it followed by each complete schedule from the
-/// state after that step.
+/// The complete schedules from a state are the empty one alone where no thread is enabled; else,
+/// for each enabled thread in rising order, a step of it followed by each complete schedule from
+/// the state after that step.
 pub fn complete_schedules_unfold()
     ensures { (p : Program) (s : Snapshot) →
         complete_schedules p s
@@ -53,13 +54,13 @@ pub fn complete_schedules_unfold()
         (flat_map (λ t. before t (complete_schedules p (step p s t))) (enabled p s)) }
 {}
 
-/// The list of complete schedules has exactly those that are complete.
+/// The list of the complete schedules from a state has exactly the schedules that are complete.
 pub fn lists_exactly_the_complete()
     ensures { (p : Program) (s : Snapshot) (w : List ℕ) →
         (is_complete p s w ≡ true) ↔ Contains (complete_schedules p s) w }
 {}
 
-/// A schedule is complete exactly where each of its steps is one of an enabled thread and nothing
+/// A schedule is complete exactly where each of its steps is one of an enabled thread and no thread
 /// is enabled after it.
 pub fn complete_schedules_run_to_the_end()
     ensures { (p : Program) (s : Snapshot) (w : List ℕ) →
@@ -67,12 +68,12 @@ pub fn complete_schedules_run_to_the_end()
         ↔ ((runs p s w ≡ true) × (is_terminal p (state_after p s w) ≡ true)) }
 {}
 
-/// Each complete schedule is in the list once.
+/// The list of the complete schedules from a state has each of them once.
 pub fn lists_each_complete_schedule_once()
     ensures { (p : Program) (s : Snapshot) → HasEachOnce (complete_schedules p s) }
 {}
 
-/// The list of complete schedules is in the order of schedules.
+/// The list of complete schedules is in rising order: each comes before the next one in it.
 pub fn complete_schedules_rise()
     ensures { (p : Program) (s : Snapshot) → IsRising (complete_schedules p s) }
 {}
@@ -85,14 +86,14 @@ pub fn none_begins_another()
 // Preemptions, counted as by Musuvathi and Qadeer (PLDI 2007): the switches away from a thread that
 // is still enabled.
 
-/// A schedule without steps has no last thread; any other has that of its last step.
+/// The last thread of a schedule is that of its last step; a schedule without steps has none.
 pub fn last_is_of_the_last_step()
     ensures none { last_of [] ≡ None }
     ensures some { (w : List ℕ) (t : ℕ) → last_of (w ++ t ∷ []) ≡ Some t }
 {}
 
-/// A further step is a preemption exactly where the last thread is enabled before it and isn't the
-/// one that takes it; the first step is none.
+/// A step after a schedule adds a preemption exactly where the schedule's last thread is enabled
+/// before the step and another thread takes the step; the first step of all adds none.
 pub fn preemptions_at_the_end()
     ensures none { (p : Program) → preemptions p [] ≡ 0 }
     ensures first { (p : Program) (u : ℕ) → preemptions p (u ∷ []) ≡ 0 }
@@ -106,8 +107,8 @@ pub fn preemptions_at_the_end()
         last_of w ≡ Some t → preemptions p (w ++ t ∷ []) ≡ preemptions p w }
 {}
 
-/// Each prefix that runs is the beginning of a complete schedule with as many preemptions; so one
-/// within a bound goes on to a complete schedule within it.
+/// Each prefix that runs is the beginning of a complete schedule with as many preemptions; so a
+/// prefix within a bound is the beginning of a complete schedule within that bound.
 pub fn prefixes_extend()
     ensures as_many { (p : Program) (x : List ℕ) →
         runs p (start p) x ≡ true →
@@ -120,8 +121,9 @@ pub fn prefixes_extend()
 
 // Schedules under a prefix.
 
-/// Under a prefix lie the complete schedules that begin with it, and within a bound those of them
-/// whose preemptions are within it; a prefix exceeds the bound where some of them has more.
+/// Under a prefix are the complete schedules that begin with it. Those of them with at most b
+/// preemptions are within the bound b. The prefix exceeds the bound exactly where some schedule
+/// under it has more.
 pub fn schedules_under_and_within()
     ensures under { (p : Program) (x w : List ℕ) →
         ((is_complete p (start p) w ≡ true) × (begins_with x w ≡ true))
@@ -134,8 +136,9 @@ pub fn schedules_under_and_within()
         ↔ ((w : List ℕ) × Contains (schedules_under p x) w × (b < preemptions p w)) }
 {}
 
-/// Under a longer prefix lie those schedules of a shorter one that begin with the longer, in order.
-pub fn longer_prefixes_keep()
+/// Where prefix y begins with prefix x, the complete schedules under y are those under x that begin
+/// with y, in the same order. The same holds of the ones with at most b preemptions.
+pub fn longer_prefixes_filter_schedules()
     ensures under { (p : Program) (x y : List ℕ) →
         begins_with x y ≡ true →
         schedules_under p y ≡ filter (begins_with y) (schedules_under p x) }
@@ -144,7 +147,8 @@ pub fn longer_prefixes_keep()
         schedules_within p y b ≡ filter (begins_with y) (schedules_within p x b) }
 {}
 
-/// Of two prefixes of one schedule one begins with the other; so two that part share no schedule.
+/// Of two prefixes of one schedule one begins with the other; so two prefixes of which neither
+/// begins with the other are prefixes of no common schedule.
 pub fn prefixes_of_one_schedule_are_comparable()
     ensures { (x y w : List ℕ) →
         begins_with x w ≡ true → begins_with y w ≡ true →

@@ -13,7 +13,7 @@ ghost use Rattle.schedules.specs.Increments.{increments, six_schedules, four_sch
 ghost use Rattle.schedules.specs.PrunedAway.{pruned_away, last, between, three_schedules};
 
 /// Two threads that each load a variable, add 1 and store the sum have six complete schedules, with
-/// these preemptions; only the two without preemptions don't lose an update. Sleep sets keep four:
+/// 0, 2, 1, 1, 2 and 0 preemptions; all but the two with none lose an update. Sleep sets keep four:
 /// of schedules that differ in the order of the two loads alone, the first.
 pub fn increments_have_six_schedules()
     ensures complete { complete_schedules increments (start increments) ≡ six_schedules }
@@ -24,9 +24,9 @@ pub fn increments_have_six_schedules()
     ensures reduced { reduced_schedules increments (start increments) none_asleep ≡ four_schedules }
 {}
 
-/// Why a search within a bound must not prune by sleep sets: of this program's three complete
-/// schedules the first one is done, and the others fail, the last one of them with no preemption.
-/// Sleep sets keep the first two, and of those only the one that is done has no preemption.
+/// Why a search within a bound must not prune by sleep sets: of the three complete schedules of the
+/// program `pruned_away` the first one is done, and the others fail, the last one with no
+/// preemption. Sleep sets keep the first two, of which only the one that is done has no preemption.
 pub fn pruning_within_a_bound_loses_a_failure()
     ensures complete { complete_schedules pruned_away (start pruned_away) ≡ three_schedules }
     ensures preemptions { map (preemptions pruned_away) three_schedules ≡ 0 ∷ 1 ∷ 0 ∷ [] }
@@ -39,8 +39,8 @@ pub fn pruning_within_a_bound_loses_a_failure()
 {}
 
 /// Two threads that set a local, branch on it and assert: the one whose test holds takes the first
-/// branch and ends, the other takes the second one and stops at its assertion. None takes a step,
-/// so the one complete schedule is empty, and it fails.
+/// branch and ends, the other takes the second one and stops at its assertion. Neither takes a
+/// step, so the one complete schedule is empty, and it fails.
 pub fn branches_run_at_once()
     ensures taken { IsAt (thread_at (start branches) 0) 6 Ended (pos 7) }
     ensures other { IsAt (thread_at (start branches) 1) 5 (Stopped FailedAssert) (pos 9) }

@@ -12,6 +12,8 @@ pub struct FailingReader<'a> {
 }
 
 impl<'a> Read for FailingReader<'a> {
+    // Counts a call, and fails where it is the call `fails_at`. Else reads one byte, or none where
+    // the text is at its end or `buf` is empty.
     fn read(&mut self, buf: &mut [u8]) -> io::Result<usize> {
         let call = self.calls;
         self.calls = self.calls.saturating_add(1);
@@ -39,13 +41,13 @@ pub struct FailingWriter {
 }
 
 impl FailingWriter {
-    /// A writer that fails at this call.
+    /// A writer that fails at the call `fails_at`, counted from 0.
     pub fn at(fails_at: usize) -> FailingWriter {
         FailingWriter { fails_at, calls: 0 }
     }
 
-    // Counts a call, and refuses the one that is to fail.
-    fn call(&mut self) -> io::Result<()> {
+    // Counts a call, and fails where it is the call `fails_at`.
+    fn count_call(&mut self) -> io::Result<()> {
         let call = self.calls;
         self.calls = self.calls.saturating_add(1);
         if call == self.fails_at {
@@ -56,12 +58,14 @@ impl FailingWriter {
 }
 
 impl Write for FailingWriter {
+    // Counts a call, which may fail, and takes the first byte of `buf`, if there is one.
     fn write(&mut self, buf: &[u8]) -> io::Result<usize> {
-        self.call()?;
+        self.count_call()?;
         Ok(buf.len().min(1))
     }
 
+    // Counts a call, which may fail; there is nothing to flush.
     fn flush(&mut self) -> io::Result<()> {
-        self.call()
+        self.count_call()
     }
 }

@@ -10,7 +10,9 @@ const MOST_TURNS: u64 = 1_000_000;
 /// A gate that lets a number of items pass, and stops at each later one.
 #[derive(Drop)]
 pub struct PassingGate {
+    /// How many items pass.
     pub passes: u64,
+    /// How many times the gate was asked.
     pub asked: AtomicU64,
 }
 
@@ -29,10 +31,13 @@ impl Gate for PassingGate {
 
     ghost stops = { λ _. true };
 
+    // Says that the gate may stop a worker.
     fn may_stop(&self) -> bool {
         true
     }
 
+    // Counts how often the gate was asked. Lets the first `passes` items go, and stops at each
+    // later one.
     fn before(&self, _worker: u32, _item: u64) -> Answer {
         if self.asked.fetch_add(1, Ordering::SeqCst) < self.passes {
             Answer::Go
@@ -51,10 +56,12 @@ impl Gate for StoppingGate {
 
     ghost stops = { λ _. true };
 
+    // Says that the gate may stop a worker.
     fn may_stop(&self) -> bool {
         true
     }
 
+    // Stops worker 1, the second one, at each item, and lets each other worker go.
     fn before(&self, worker: u32, _item: u64) -> Answer {
         match worker {
             1 => Answer::Stop,
@@ -67,8 +74,11 @@ impl Gate for StoppingGate {
 /// have ended, or the worker has waited too long.
 #[derive(Drop)]
 pub struct HoldingGate {
+    /// How many walks have to end before the held worker goes on.
     pub until: u64,
+    /// How many walks have ended.
     pub walks: AtomicU64,
+    /// 1 where the held worker has waited too long.
     pub late: AtomicU64,
 }
 
@@ -88,10 +98,13 @@ impl Gate for HoldingGate {
 
     ghost stops = { λ _. false };
 
+    // Says that the gate never stops a worker.
     fn may_stop(&self) -> bool {
         false
     }
 
+    // Counts a walk that ended. After the second one, holds its worker until `until` walks have
+    // ended; after `MOST_TURNS` turns it notes that it is late, and lets the worker go.
     fn walked(&self, _worker: u32, _item: u64) {
         if self.walks.fetch_add(1, Ordering::SeqCst) != 1 {
             return;

@@ -21,8 +21,10 @@ use std::thread::Threads;
 const RACE: &str =
     "var x; thread A { store x 1; store x 0; } thread B { load r x; assert r == 0; }";
 
-/// What searches find under the prefixes of the least length at which there are at least three.
-fn parts_of(
+// Searches by `workers` workers under each prefix of a program, of the least length at which there
+// are at least three. Prints what is found as lines of parts, for an empty guest's digest, and
+// reads the lines back.
+fn parts_read_back(
     rt: &(impl Threads + Wait + Sync + Alloc<A = Global>),
     program: &Arc<Program>,
     options: Options,
@@ -53,8 +55,8 @@ fn parts_of(
     Ok(parts_from(alloc, lines.as_slice())?)
 }
 
-/// Joins what one worker finds and what three workers find, which has to agree, and compares the
-/// report with that of a search of the whole program.
+// Joins the parts that one worker finds with those that three find; `join` refuses them where they
+// differ. Checks that the report is that of a search of the whole program.
 fn check_join(
     rt: &(impl Abort + Threads + Wait + Sync + Alloc<A = Global>),
     text: &str,
@@ -65,8 +67,8 @@ fn check_join(
     let alloc = rt.alloc();
     let program = program_of(alloc, text)?;
     let options = Options::new(search);
-    let mut parts = parts_of(rt, &program, options, 1)?;
-    for part in parts_of(rt, &program, options, 3)? {
+    let mut parts = parts_read_back(rt, &program, options, 1)?;
+    for part in parts_read_back(rt, &program, options, 3)? {
         parts.push(part)?;
     }
     let joined = report_text(alloc, &join(alloc, &program, search, parts.as_slice())?)?;
@@ -75,6 +77,8 @@ fn check_join(
     Ok(())
 }
 
+// Three programs are each searched without preemptions, with at most two, and without a bound,
+// under their prefixes. The joined parts have the report of a search of the whole program.
 #[test]
 fn parts_join_to_the_report_of_the_whole(rt: HostRuntime) -> Result<(), Fail> {
     for text in &[COUNTERS, RACE, THREE] {
@@ -85,7 +89,7 @@ fn parts_join_to_the_report_of_the_whole(rt: HostRuntime) -> Result<(), Fail> {
     Ok(())
 }
 
-/// The text of why parts of a program don't join.
+// Why the parts of a program don't join for a search, as a text. An error where they do.
 fn join_refusal(
     alloc: Global,
     program: &Arc<Program>,
@@ -98,12 +102,15 @@ fn join_refusal(
     }
 }
 
+// Parts of `COUNTERS` at bound 0 don't join for a search up to bound 1: nothing is there at bound
+// 1, as under `1,0`. Without the last part they don't join for bound 0 either: nothing is there
+// under `1,1`, printed `1x2`.
 #[test]
 fn what_is_missing_is_told(rt: HostRuntime) -> Result<(), Fail> {
     let alloc = rt.alloc();
     let options = Options::new(Search::UpTo(0));
     let program = program_of(alloc, COUNTERS)?;
-    let mut parts = parts_of(&rt, &program, options, 1)?;
+    let mut parts = parts_read_back(&rt, &program, options, 1)?;
     let lacks = join_refusal(alloc, &program, Search::UpTo(1), parts.as_slice())?;
     let want = "nothing at bound 1 under 1,0";
     assert_eq!(&rt; lacks.as_slice(), want.as_bytes());
@@ -113,6 +120,8 @@ fn what_is_missing_is_told(rt: HostRuntime) -> Result<(), Fail> {
     Ok(())
 }
 
+// Searches of `THREE` under prefixes of one step, each with a limit of one schedule, are cut short.
+// So the parts don't join, and the refusal names the bound and the prefix of one of them.
 #[test]
 fn a_level_that_was_cut_short_is_told(rt: HostRuntime) -> Result<(), Fail> {
     let program = program_of(rt.alloc(), THREE)?;
@@ -121,7 +130,7 @@ fn a_level_that_was_cut_short_is_told(rt: HostRuntime) -> Result<(), Fail> {
         quota: 1,
         ..Options::new(Search::UpTo(0))
     };
-    let parts = parts_of(&rt, &program, options, 1)?;
+    let parts = parts_read_back(&rt, &program, options, 1)?;
     let cut = join_refusal(rt.alloc(), &program, options.search, parts.as_slice())?;
     assert_eq!(&rt; cut.as_slice(), "cut short at bound 0 under 2".as_bytes());
     Ok(())

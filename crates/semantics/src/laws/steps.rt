@@ -39,13 +39,13 @@ pub fn steps_change_only_what_they_write()
         count_of (step p s t) k ≡ count_of s k }
 {}
 
-/// A step of one thread leaves each other thread where that is, with its locals, but may wake it.
+/// A step of one thread leaves each other thread as it is, or wakes it; place and locals stay.
 pub fn steps_leave_other_threads()
     ensures { (p : Program) (s : Snapshot) (t u : ℕ) →
         is_enabled p s t ≡ true → u ≢ t → IsLeft (thread_at s u) (thread_at (step p s t) u) }
 {}
 
-/// After a step there are fewer steps that the threads may still take.
+/// Each step of an enabled thread lowers the work: how many steps all threads may still take.
 pub fn work_falls()
     ensures { (p : Program) (s : Snapshot) (t : ℕ) →
         is_enabled p s t ≡ true → work p (step p s t) < work p s }
@@ -61,8 +61,8 @@ pub fn loads_read()
         IsAboutTo p s t (OnVariable x (Load r)) → (step p s t).vars ≡ s.vars }
 {}
 
-/// After a store its variable has the value of its operand; it changes no other variable and no
-/// local.
+/// After a store its variable has the value of its operand. The store changes no other variable,
+/// and its thread runs on with its locals as they were.
 pub fn stores_write()
     ensures value { (p : Program) (s : Snapshot) (t x : ℕ) (a : Value) →
         IsAboutTo p s t (OnVariable x (Store a)) → x < length s.vars →
@@ -74,8 +74,8 @@ pub fn stores_write()
         IsAboutTo p s t (OnVariable x (Store a)) → RunsOn p s t }
 {}
 
-/// An `add` puts the variable's old value into its local, and the sum of that and its operand, as
-/// `+` makes it, into the variable.
+/// In one step, an `add` puts the variable's old value into its local, and the sum of the old value
+/// and its operand, as `+` makes it, into the variable.
 pub fn adds_are_atomic()
     ensures local { (p : Program) (s : Snapshot) (t x r : ℕ) (a : Value) →
         IsAboutTo p s t (OnVariable x (Add r a)) → PutsInto p s t r (value_of s x) }
@@ -84,9 +84,9 @@ pub fn adds_are_atomic()
         value_of (step p s t) x ≡ of_both Plus (value_of s x) (operand_of s t a) }
 {}
 
-/// A `cas` whose variable has the expected value gives it the new one, and puts 1 into its local;
-/// any other `cas` puts 0 into its local, and changes no variable.
-pub fn swaps_are_atomic()
+/// In one step, a `cas` whose variable has the expected value gives it the new one, and puts 1 into
+/// its local; any other `cas` puts 0 into its local, and changes no variable.
+pub fn cas_is_atomic()
     ensures hit { (p : Program) (s : Snapshot) (t x r : ℕ) (a b : Value) →
         IsAboutTo p s t (OnVariable x (Cas r a b)) → x < length s.vars →
         value_of s x ≡ operand_of s t a → value_of (step p s t) x ≡ operand_of s t b }
@@ -103,7 +103,8 @@ pub fn swaps_are_atomic()
 
 // Mutexes.
 
-/// A thread can lock a mutex, or take it again, exactly where it is free, and owns it then.
+/// A thread whose next step locks a mutex, or takes it again after a `wait`, is enabled exactly
+/// where the mutex is free, and owns it after the step.
 pub fn free_mutexes_are_taken()
     ensures enabled { (p : Program) (s : Snapshot) (t m : ℕ) (d : MutexAction) →
         d ≢ Unlock → IsAboutTo p s t (OnMutex m d) →
@@ -113,7 +114,8 @@ pub fn free_mutexes_are_taken()
         owner_of (step p s t) m ≡ Some t }
 {}
 
-/// An unlock by the mutex's owner frees it; one by another thread leaves it and stops that thread.
+/// An unlock by the mutex's owner frees the mutex, and the thread runs on; one by another thread
+/// leaves the mutex as it is, and stops that other thread.
 pub fn owners_alone_unlock()
     ensures frees { (p : Program) (s : Snapshot) (t m : ℕ) →
         IsAboutTo p s t (OnMutex m Unlock) → owner_of s m ≡ Some t →
@@ -127,8 +129,8 @@ pub fn owners_alone_unlock()
         IsAboutTo p s t (OnMutex m Unlock) → owner_of s m ≢ Some t → StopsNotHeld p s t }
 {}
 
-/// A wait by the mutex's owner frees it, and the thread waits, last in the condition's queue; one
-/// by another thread leaves mutex and queue, and stops that thread.
+/// A wait by the mutex's owner frees the mutex, and the thread waits, last in the condition's
+/// queue; one by another thread leaves mutex and queue as they are, and stops that other thread.
 pub fn owners_alone_wait()
     ensures frees { (p : Program) (s : Snapshot) (t m c : ℕ) →
         IsAboutTo p s t (Waits c m) → owner_of s m ≡ Some t → owner_of (step p s t) m ≡ None }
@@ -148,7 +150,7 @@ pub fn owners_alone_wait()
         IsAboutTo p s t (Waits c m) → owner_of s m ≢ Some t → StopsNotHeld p s t }
 {}
 
-/// A mutex that a thread owns stays its own under every step of another thread.
+/// A mutex that one thread owns is still that thread's after every step of another thread.
 pub fn others_leave_an_owned_mutex()
     ensures { (p : Program) (s : Snapshot) (t u m : ℕ) →
         is_enabled p s t ≡ true → owner_of s m ≡ Some u → t ≢ u →
@@ -157,7 +159,8 @@ pub fn others_leave_an_owned_mutex()
 
 // Conditions.
 
-/// Where queues hold who waits, each thread that a signal or a broadcast calls is woken.
+/// Where each thread in a condition's queue waits for that condition, a signal wakes the first
+/// thread of the queue, and a broadcast wakes all threads of it.
 pub fn threads_to_wake_are_woken()
     ensures { (p : Program) (s : Snapshot) (t u c : ℕ) (d : ConditionAction) →
         HasWaiters s → next_of p s t ≡ Some (OnCondition c d) →
@@ -165,8 +168,8 @@ pub fn threads_to_wake_are_woken()
         (thread_at (step p s t) u).status ≡ Woken }
 {}
 
-/// A signal wakes the first of the queue, who leaves it, and no other thread; where nobody waits it
-/// wakes nobody.
+/// Where each thread in a queue waits for the queue's condition, a signal wakes the first thread of
+/// its condition's queue, which leaves the queue, and no other; an empty queue has nobody to wake.
 pub fn signals_wake_the_first()
     ensures woken { (p : Program) (s : Snapshot) (t c u : ℕ) (us : List ℕ) →
         HasWaiters s → IsAboutTo p s t (OnCondition c Signal) → queue_of s c ≡ u ∷ us →
@@ -182,7 +185,7 @@ pub fn signals_wake_the_first()
         thread_at (step p s t) v ≡ thread_at s v }
 {}
 
-/// After a broadcast nobody waits for its condition.
+/// After a broadcast the queue of its condition is empty.
 pub fn broadcasts_empty_the_queue()
     ensures { (p : Program) (s : Snapshot) (t c : ℕ) →
         IsAboutTo p s t (OnCondition c Broadcast) → c < length s.queues →
@@ -191,7 +194,8 @@ pub fn broadcasts_empty_the_queue()
 
 // Semaphores.
 
-/// A semaphore can be acquired exactly where its count is above 0, and the count falls by 1.
+/// A thread whose next step acquires a semaphore is enabled exactly where the count is above 0. The
+/// step lowers the count by 1, and the thread runs on.
 pub fn acquires_lower_the_count()
     ensures enabled { (p : Program) (s : Snapshot) (t k : ℕ) →
         IsAboutTo p s t (OnSemaphore k Acquire) →
@@ -203,7 +207,8 @@ pub fn acquires_lower_the_count()
         IsAboutTo p s t (OnSemaphore k Acquire) → RunsOn p s t }
 {}
 
-/// A release raises the count by 1; at `COUNT` the count stays, and the thread stops.
+/// A release raises its semaphore's count by 1, and its thread runs on; where the count is `COUNT`
+/// already it stays, and the thread stops.
 pub fn releases_raise_the_count()
     ensures count { (p : Program) (s : Snapshot) (t k : ℕ) →
         IsAboutTo p s t (OnSemaphore k Release) → k < length s.counts →

@@ -1,4 +1,4 @@
-//! What a step changes beside its thread.
+//! What a step changes beside the thread that takes it.
 
 ghost use Rattle.std.specs.Prelude.{◌≡◌};
 ghost use Rattle.guest_code.specs.Program.{Program, IsWellFormed};
@@ -9,7 +9,7 @@ use crate::queue::Queue;
 use crate::signals::wait_again;
 use crate::state::{Action, State};
 
-/// The objects that a step changes beside its thread, as they were before.
+/// The objects that a step changes beside the thread that takes it, as they were before.
 #[derive(Drop)]
 pub enum Objects {
     /// A variable and its value.
@@ -25,7 +25,7 @@ pub enum Objects {
 }
 
 impl Objects {
-    /// The objects that this action is about to change, as they are in the state.
+    /// The objects that a step with this action may change, as `state` has them before the step.
     pub fn before(state: &State, action: Action) -> Objects
         requires { (p : Program) × IsWellFormed p × IsOf p state.now × IsValidAction p action }
         ensures { result ≡ objects_of state.now action }
@@ -39,7 +39,8 @@ impl Objects {
         }
     }
 
-    /// Puts the objects of a state back as they were.
+    /// Takes back what a step changed beside the thread that took it: the objects are again as they
+    /// are noted in `self`, and threads that a signal or a broadcast woke wait again.
     pub fn put_back(&self, state: &mut State)
         requires { HasObjects state.old self.now }
         ensures { state.new ≡ put_back self.now state.old }

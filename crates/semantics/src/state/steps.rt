@@ -8,7 +8,7 @@ ghost use Rattle.semantics.specs.declared.state.Action.TheVariants.{OnVariable, 
 
 use crate::action::owns;
 use crate::local::{access, resume};
-use crate::signals::notify;
+use crate::signals::signal_or_broadcast;
 use crate::state::objects::Objects;
 use crate::state::{
     Action, ConditionAction, MutexAction, SemaphoreAction, State, Status, Stop, VariableAction,
@@ -18,7 +18,7 @@ use guest_code::limits::COUNT;
 use guest_code::program::Program;
 
 impl State {
-    /// Takes one step of an enabled thread, and answers how to take it back. Nothing is allocated.
+    /// Takes one step of an enabled thread, and answers the record for `undo`. Allocates nothing.
     pub fn step(&mut self, program: &Program, thread: u8) -> Undo
         requires of { IsOf program.now self.old }
         requires enabled { IsTrue (is_enabled program.now self.old thread) }
@@ -28,7 +28,7 @@ impl State {
         ensures back { undone result self.new ≡ self.old }
     {
         program.keeps_limits();
-        let Some(action) = self.next(program, thread) else {
+        let Some(action) = self.next_action(program, thread) else {
             unreachable!()
         };
         let before = self.threads[thread as usize];
@@ -41,7 +41,7 @@ impl State {
         }
     }
 
-    /// Takes back the step of which `undo` is the record. Nothing is allocated.
+    /// Takes back the last step, of which `undo` is the record. Nothing is allocated.
     pub fn undo(&mut self, undo: &Undo)
         requires { IsRecordOf undo.now self.old }
         ensures { self.new ≡ undone undo.now self.old }
@@ -50,7 +50,7 @@ impl State {
         undo.objects.put_back(self);
     }
 
-    // Takes the step of a thread that does this action.
+    // Takes the next step of a thread, which does this action.
     fn perform(&mut self, program: &Program, thread: u8, action: Action)
         requires { IsReady program.now self.old thread action }
         ensures { self.new ≡ performed program.now self.old thread action }
@@ -64,7 +64,7 @@ impl State {
         }
     }
 
-    // Takes a thread's step on variable x.
+    // Takes a thread's step that reads or writes variable x, and the local run after it.
     fn step_variable(&mut self, program: &Program, thread: u8, x: usize, action: VariableAction)
         requires { IsReady program.now self.old thread (OnVariable x action) }
         ensures { self.new ≡ performed program.now self.old thread (OnVariable x action) }
@@ -74,7 +74,8 @@ impl State {
         resume(program.code(thread), runner);
     }
 
-    // Takes a thread's step on mutex m alone.
+    // Takes a thread's step that locks, unlocks or retakes mutex m, and the local run after it. An
+    // `unlock` by a thread that isn't the owner stops that thread instead, and frees nothing.
     fn step_mutex(&mut self, program: &Program, thread: u8, m: usize, action: MutexAction)
         requires { IsReady program.now self.old thread (OnMutex m action) }
         ensures { self.new ≡ performed program.now self.old thread (OnMutex m action) }
@@ -93,7 +94,8 @@ impl State {
         resume(program.code(thread), runner);
     }
 
-    // Takes the first step of a `wait` for condition c with mutex m.
+    // Takes the first step of a `wait`: the thread frees mutex m and joins the queue of condition
+    // c. A thread that isn't the mutex's owner stops instead.
     fn begin_wait(&mut self, program: &Program, thread: u8, c: usize, m: usize)
         requires { IsReady program.now self.old thread (Waits c m) }
         ensures { self.new ≡ performed program.now self.old thread (Waits c m) }
@@ -109,13 +111,14 @@ impl State {
         }
     }
 
-    // Takes a thread's step on condition c alone.
+    // Takes a thread's step that signals condition c, or broadcasts it: the first thread in its
+    // queue is woken, or all are. The thread that took the step then takes its local run.
     fn step_condition(&mut self, program: &Program, thread: u8, c: usize, action: ConditionAction)
         requires { IsReady program.now self.old thread (OnCondition c action) }
         ensures { self.new ≡ performed program.now self.old thread (OnCondition c action) }
     {
         program.keeps_limits();
-        notify(
+        signal_or_broadcast(
             &mut self.queues[c],
             self.threads.as_mut_slice(),
             c as u8,
@@ -125,7 +128,8 @@ impl State {
         resume(program.code(thread), runner);
     }
 
-    // Takes a thread's step on semaphore k.
+    // Takes a thread's step that acquires or releases semaphore k, and the local run after it. A
+    // `release` at the greatest count, `COUNT`, stops the thread instead, and the count stays.
     fn step_semaphore(&mut self, program: &Program, thread: u8, k: usize, action: SemaphoreAction)
         requires { IsReady program.now self.old thread (OnSemaphore k action) }
         ensures { self.new ≡ performed program.now self.old thread (OnSemaphore k action) }

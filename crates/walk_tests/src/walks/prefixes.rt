@@ -10,14 +10,14 @@ use walk::found::Found;
 use walk::walker::walk;
 use walk::{Item, Mode};
 
-/// What the walk of the counters' schedules after a prefix finds within a bound, in one line.
+// What the walk of `COUNTERS` under a prefix finds within a bound, as a line of `summary_line`.
 fn walk_line_after(alloc: Global, prefix: &[u8], bound: u32) -> Result<String, Fail> {
     let item = Item::at(alloc, program_of(alloc, COUNTERS)?, prefix)?;
     walk_line(alloc, &item, Mode::Bounded(bound))
 }
 
-/// Adds prefixes to a line, from the last on, and takes them off their list.
-fn add_from_the_last(line: &mut String, prefixes: &mut Prefixes) -> Result<(), Fail> {
+// Pops all prefixes of a list, and appends each to a line, the last first, each after `; `.
+fn pop_all_into_line(line: &mut String, prefixes: &mut Prefixes) -> Result<(), Fail> {
     for _ in 0..prefixes.len() {
         write!(line, "; {:?}", prefixes.last())?;
         if !prefixes.is_empty() {
@@ -27,22 +27,23 @@ fn add_from_the_last(line: &mut String, prefixes: &mut Prefixes) -> Result<(), F
     Ok(())
 }
 
-/// The walk of the counters' schedules that begin with a prefix within a bound, in parts.
-fn parts_after(alloc: Global, prefix: &[u8], bound: u32) -> Result<Found, Fail> {
+// What a walk of `COUNTERS` under a prefix finds within a bound. The quota, 256, cuts nothing off.
+fn found_after(alloc: Global, prefix: &[u8], bound: u32) -> Result<Found, Fail> {
     let item = Item::at(alloc, program_of(alloc, COUNTERS)?, prefix)?;
     let (_, found) = walk(alloc, &item, Mode::Bounded(bound), 256)?.into_parts();
     Ok(found)
 }
 
-/// What `parts_after` finds, and then the prefixes that the bound put off, from the last on.
-fn found_and_put_off(alloc: Global, prefix: &[u8], bound: u32) -> Result<String, Fail> {
-    let mut parts = parts_after(alloc, prefix, bound)?;
+// The summary of `found_after` in a line, with the prefixes that the bound defers, the last first.
+fn found_and_deferred(alloc: Global, prefix: &[u8], bound: u32) -> Result<String, Fail> {
+    let mut parts = found_after(alloc, prefix, bound)?;
     let mut line = summary_line(alloc, &parts.part)?;
-    add_from_the_last(&mut line, &mut parts.deferred)?;
+    pop_all_into_line(&mut line, &mut parts.deferred)?;
     Ok(line)
 }
 
-/// Compares what the walk of the counters' schedules after a prefix finds within a bound.
+// Checks that the walk of `COUNTERS` under a prefix finds `want` within a bound: tried, failed,
+// stuck, whether some are beyond the bound, the first bad schedule, the end views.
 fn check_walk_after(
     rt: &(impl Abort + Alloc<A = Global>),
     prefix: &[u8],
@@ -54,19 +55,20 @@ fn check_walk_after(
     Ok(())
 }
 
-/// Compares what the walk of the schedules after a prefix finds within a bound, with the prefixes
-/// that the bound puts off.
-fn check_put_off(
+// Checks that the line of `found_and_deferred`, for this prefix and bound, is `want`.
+fn check_deferred(
     rt: &(impl Abort + Alloc<A = Global>),
     prefix: &[u8],
     bound: u32,
     want: &str,
 ) -> Result<(), Fail> {
-    let line = found_and_put_off(rt.alloc(), prefix, bound)?;
+    let line = found_and_deferred(rt.alloc(), prefix, bound)?;
     assert_eq!(rt; line.as_str(), want, "{prefix:?}, {bound}");
     Ok(())
 }
 
+// Of the three schedules of `COUNTERS` that thread 0 begins, 1, 2 and 3 are within bounds 0, 1 and
+// 2. None failed or got stuck. `true` says that some are beyond the bound; `Done` is an end view.
 #[test]
 fn walks_after_one_step(rt: HostRuntime) -> Result<(), Fail> {
     check_walk_after(&rt, &[0], 0, "1 0 0 true None Done [2]")?;
@@ -82,6 +84,7 @@ struct PrefixRow {
     found: &'static str,
 }
 
+/// Rows for `COUNTERS`. What one row puts off, another one walks at the next bound.
 const PUT_OFF: [PrefixRow; 6] = [
     PrefixRow {
         prefix: &[0, 1],
@@ -115,10 +118,11 @@ const PUT_OFF: [PrefixRow; 6] = [
     },
 ];
 
+// Each row has a prefix, a bound, and what the walk of `COUNTERS` finds and puts off there.
 #[test]
-fn what_bounds_put_off(rt: HostRuntime) -> Result<(), Fail> {
+fn what_bounds_defer(rt: HostRuntime) -> Result<(), Fail> {
     for row in &PUT_OFF {
-        check_put_off(&rt, row.prefix, row.bound, row.found)?;
+        check_deferred(&rt, row.prefix, row.bound, row.found)?;
     }
     Ok(())
 }
@@ -126,7 +130,7 @@ fn what_bounds_put_off(rt: HostRuntime) -> Result<(), Fail> {
 /// A thread that takes a mutex twice.
 const TWICE: &str = "mutex m; thread A { lock m; lock m; }";
 
-/// Why a prefix doesn't run in `TWICE`, if it doesn't.
+// `an item` where a prefix runs in the program of `TWICE`, or else the reason why it doesn't.
 fn refusal_line(alloc: Global, prefix: &[u8]) -> Result<String, Fail> {
     match Item::at(alloc, program_of(alloc, TWICE)?, prefix) {
         Ok(_) => Ok(String::from_str(alloc, "an item")?),
@@ -134,13 +138,14 @@ fn refusal_line(alloc: Global, prefix: &[u8]) -> Result<String, Fail> {
     }
 }
 
-/// Compares why a prefix doesn't run in `TWICE`.
+// Checks that a prefix doesn't run in the program of `TWICE`, for the reason `want`.
 fn check_why(rt: &(impl Abort + Alloc<A = Global>), prefix: &[u8], want: &str) -> Result<(), Fail> {
     let line = refusal_line(rt.alloc(), prefix)?;
     assert_eq!(rt; line.as_str(), want);
     Ok(())
 }
 
+// There is no thread 1, and thread 0, which locks a mutex twice, may not take its second step.
 #[test]
 fn prefixes_that_do_not_run(rt: HostRuntime) -> Result<(), Fail> {
     check_why(&rt, &[1], "schedule P1 NoSuchThread at 0")?;
@@ -150,15 +155,16 @@ fn prefixes_that_do_not_run(rt: HostRuntime) -> Result<(), Fail> {
 /// Two threads whose steps are independent.
 const READERS: &str = "var x; thread A { load r x; } thread B { load r x; }";
 
-/// Whether an item of `READERS` is the one of its prefix after which no thread sleeps.
+// Whether an item of `READERS` equals the one that `Item::at` makes of its prefix, at which no
+// thread sleeps.
 fn is_awake(alloc: Global, item: &Item) -> Result<bool, Fail> {
     let awake = Item::at(alloc, program_of(alloc, READERS)?, item.prefix())?;
     Ok(item.equals(&awake))
 }
 
-/// How many items the first schedule of `READERS` leaves where sleep sets prune, and whether one of
-/// these is awake.
-fn left_awake(alloc: Global) -> Result<(usize, bool), Fail> {
+// Walks the first schedule of `READERS` with sleep sets. Answers how many items the walk leaves,
+// and whether at one of these no thread sleeps.
+fn count_left_and_find_awake(alloc: Global) -> Result<(usize, bool), Fail> {
     let root = root_of(alloc, READERS)?;
     let (_, found) = walk(alloc, &root, Mode::Reduced, 1)?.into_parts();
     let mut some = false;
@@ -168,8 +174,10 @@ fn left_awake(alloc: Global) -> Result<(usize, bool), Fail> {
     Ok((found.rest.len(), some))
 }
 
+// Two readers, walked up to one schedule with sleep sets: one item is left, and some thread sleeps
+// at it, so it isn't equal to the item that `Item::at` makes of its prefix.
 #[test]
 fn items_differ_by_who_sleeps(rt: HostRuntime) -> Result<(), Fail> {
-    assert_eq!(rt; left_awake(rt.alloc())?, (1, false));
+    assert_eq!(rt; count_left_and_find_awake(rt.alloc())?, (1, false));
     Ok(())
 }

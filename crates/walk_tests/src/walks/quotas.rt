@@ -19,15 +19,16 @@ const MOST_WALKS: usize = 1000;
 /// The schedules of `ALL_KINDS` with at most two preemptions.
 const WITHIN_TWO: &str = "23 0 4 true Some([1, 1, 1, 1, 0, 1, 2, 2, 0]) Done [1] Stuck [1]";
 
-/// Joins what a walk found into the whole, and adds what it leaves to the open items.
-fn take_over(walked: Walked, whole: &mut Summary, open: &mut Vec<Item>) -> Result<(), Fail> {
+// Joins the summary of a walk into `whole`, and moves the items that it left to `open`.
+fn join_and_reopen(walked: Walked, whole: &mut Summary, open: &mut Vec<Item>) -> Result<(), Fail> {
     let (_, mut found) = walked.into_parts();
     whole.join_in(&mut EndHints::new(), &mut found.part)?;
     open.append(&mut found.rest)?;
     Ok(())
 }
 
-/// What walks find in all of a text's program, each cut at a quota, of the root and all items left.
+// Walks the root of a text's program and all items that walks leave, each up to `quota` schedules,
+// in at most `MOST_WALKS` walks. Answers the joined summary in one line.
 fn found_in_parts(alloc: Global, text: &str, mode: Mode, quota: u32) -> Result<String, Fail>
     requires { 1 ≤ quota }
 {
@@ -39,12 +40,12 @@ fn found_in_parts(alloc: Global, text: &str, mode: Mode, quota: u32) -> Result<S
             break;
         };
         let walked = walk(alloc, &next, mode, quota)?;
-        take_over(walked, &mut whole, &mut open)?;
+        join_and_reopen(walked, &mut whole, &mut open)?;
     }
     summary_line(alloc, &whole)
 }
 
-/// Compares what walks of a text's program find in all, each cut at a quota.
+// Checks that the walks of `found_in_parts`, each up to `quota` schedules, find `want` together.
 fn check_parts(
     rt: &(impl Abort + Alloc<A = Global>),
     text: &str,
@@ -59,6 +60,8 @@ fn check_parts(
     Ok(())
 }
 
+// `COUNTERS` has four schedules with at most one preemption. With quota 1, one is tried, and items
+// are left; with quota 5, all four are tried, and none is left.
 #[test]
 fn quotas_cut_a_walk(rt: HostRuntime) -> Result<(), Fail> {
     let (tried, _, left, _) = walk_counts(rt.alloc(), COUNTERS, Mode::Bounded(1), 1)?;
@@ -69,11 +72,13 @@ fn quotas_cut_a_walk(rt: HostRuntime) -> Result<(), Fail> {
     Ok(())
 }
 
-/// The schedules of `COUNTERS` with at most one preemption, and those that are left by sleep sets.
+/// What is found of the schedules of `COUNTERS` with at most one preemption.
 const WITHIN_ONE: &str = "4 0 0 true None Done [1] Done [2]";
 
+/// What is found of the schedules of `COUNTERS` that sleep sets leave.
 const PRUNED: &str = "4 0 0 false None Done [1] Done [2]";
 
+// Walks of all items, each up to a quota, the number here, find the same together at any quota.
 #[test]
 fn parts_make_the_whole(rt: HostRuntime) -> Result<(), Fail> {
     check_parts(&rt, COUNTERS, Mode::Bounded(1), 1, WITHIN_ONE)?;
@@ -84,22 +89,22 @@ fn parts_make_the_whole(rt: HostRuntime) -> Result<(), Fail> {
     check_parts(&rt, COUNTERS, Mode::Reduced, 3, PRUNED)
 }
 
-/// How many items a walk leaves and how many prefixes it puts off.
-fn left_and_put_off(walked: &Walked) -> (usize, usize) {
+// How many items a walk left and how many prefixes it deferred.
+fn left_and_deferred(walked: &Walked) -> (usize, usize) {
     (walked.rest_len(), walked.deferred_len())
 }
 
-/// How many schedules a walk tried, how many items it left and how many prefixes it put off, by its
-/// parts.
+// How many schedules a walk tried, how many items it left, and how many prefixes it deferred.
 fn counts_of(parts: &Found) -> (u64, usize, usize) {
     (parts.part.tried(), parts.rest.len(), parts.deferred.len())
 }
 
+// The parts of a walk of one schedule have as many items and deferred prefixes as the walk says.
 #[test]
-fn the_parts_of_a_walk_are_taken_over(rt: HostRuntime) -> Result<(), Fail> {
+fn into_parts_keeps_the_counts(rt: HostRuntime) -> Result<(), Fail> {
     let alloc = rt.alloc();
     let walked = walk(alloc, &root_of(alloc, COUNTERS)?, Mode::Bounded(0), 1)?;
-    let (left, off) = left_and_put_off(&walked);
+    let (left, off) = left_and_deferred(&walked);
     let (_, found) = walked.into_parts();
     assert_eq!(rt; counts_of(&found), (1, left, off));
     Ok(())

@@ -161,6 +161,7 @@ const ROWS: [ProgramRow; 26] = [
     },
 ];
 
+// Each row has a text, a mode, and the line of what the walk of all schedules finds.
 #[test]
 fn walks_of_all_schedules(rt: HostRuntime) -> Result<(), Fail> {
     for row in &ROWS {
@@ -169,8 +170,9 @@ fn walks_of_all_schedules(rt: HostRuntime) -> Result<(), Fail> {
     Ok(())
 }
 
+// A walk with sleep sets of all schedules of `COUNTERS` has no bound, so it puts no prefix off.
 #[test]
-fn pruned_walks_put_nothing_off(rt: HostRuntime) -> Result<(), Fail> {
+fn pruned_walks_defer_nothing(rt: HostRuntime) -> Result<(), Fail> {
     let (_, _, _, put_off) = walk_counts(rt.alloc(), COUNTERS, Mode::Reduced, 256)?;
     assert_eq!(rt; put_off, 0);
     Ok(())

@@ -10,5 +10,5 @@ returns-clause-served g c =
     let output = subst (λ (bytes : List ℕ). Appends before after bytes) c.output.ensures
     c.in_ok-write_out.ensures in
     served (g.R.Read.remaining c.args.input.now) c.in_ok-text.text.items c.args.request.now
-    c.new-answer.result before after c.status.result c.in_ok-text.ensures c.new-answer.ensures
-    output c.status.ensures
+    c.of_request-answer.result before after c.status.result c.in_ok-text.ensures
+    c.of_request-answer.ensures output c.status.ensures

@@ -11,7 +11,7 @@ loop-place-preserved c =
     let k = c.loop-place.place in
     let x : ItemView = c.index.result.now in
     let at : x ≡ get_or second k x = search rules in
-    let found : slice_get first k ≡ Some x = c.if-not-is_at.ensures.0 refl in
+    let found : slice_get first k ≡ Some x = c.if-not-has_item_at.ensures.0 refl in
     let there : Some (get_or first k x) ≡ Some x = sym (got-or first k x (omega arith)) ∙ found in
     let same : get_or first k x ≡ x = cc in
     take_more_same first second k x (omega arith) (omega arith) c.loop-place.invariant (same ∙ at)

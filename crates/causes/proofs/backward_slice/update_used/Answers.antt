@@ -7,15 +7,15 @@ use Rattle.causes.proofs.backward_slice.update_used.Goals as goal
 
 pub loop-r-preserved : goal.loop-r-preserved
 loop-r-preserved c = record {
-  done = done_on c.loop-r.used c.loop-r.r c.is_used_from.result false
+  done = done_on c.loop-r.used c.loop-r.r c.is_local_used.result false
       (λ k. (c.args.needed && uses_value k c.args.event.now.statement)
       || (not (is k (local_set c.args.event.now.statement))
       && slice_index_or c.args.used.now k false)) (omega arith) c.loop-r.invariant.done
-      (c.is_used_from.ensures ∙ ap (λ b. (c.args.needed
+      (c.is_local_used.ensures ∙ ap (λ b. (c.args.needed
       && uses_value c.loop-r.r c.args.event.now.statement)
       || (not (is c.loop-r.r (local_set c.args.event.now.statement)) && b))
       (c.loop-r.invariant.rest c.loop-r.r (omega arith)));
-  rest = λ k l. get_or-set_other c.loop-r.used c.loop-r.r k c.is_used_from.result false
+  rest = λ k l. get_or-set_other c.loop-r.used c.loop-r.r k c.is_local_used.result false
       (let ne : k ≢ c.loop-r.r = omega (arith, l) in ne)
       ∙ c.loop-r.invariant.rest k (omega (arith, l));
 }

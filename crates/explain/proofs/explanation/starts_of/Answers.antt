@@ -19,12 +19,12 @@ loop-t-preserved c =
     let here = c.in_ok-state.ensures.value in
     let locals = replicate 16 (pos 0) in
     let new : Start = record {
-      assignments = c.put_assignments.new.assignments;
+      assignments = c.run_and_push_assignments.new.assignments;
       next = c.pc.result;
       stop = c.stop.result;
     } in
     let begins : Begins p t new = record {
-      assignments = c.in_ok-put_assignments.ensures
+      assignments = c.in_ok-run_and_push_assignments.ensures
           ∙ (ap (λ (before : List Assignment). before ++ settings_in c.code.result.now 0 0 locals)
           c.new-assignments.ensures.items
           ∙ ap (λ (code : List Instruction). settings_in code 0 0 locals) c.code.ensures.code);

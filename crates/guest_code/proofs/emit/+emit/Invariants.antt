@@ -16,8 +16,8 @@ decreases-emit_statement l = 3 * goal.size-emit_statement l
 abbrev pub decreases-emit_if : goal.decreases-emit_if
 decreases-emit_if l = 3 * goal.size-emit_if l + 2
 
-abbrev pub decreases-emit_choice : goal.decreases-emit_choice
-decreases-emit_choice l = 3 * max (most the_size l.then.now) (most the_size l.other.now) + 2
+abbrev pub decreases-emit_if_else : goal.decreases-emit_if_else
+decreases-emit_if_else l = 3 * max (most the_size l.then.now) (most the_size l.other.now) + 2
 
 abbrev pub decreases-emit_copies : goal.decreases-emit_copies
 decreases-emit_copies l = 3 * goal.size-emit_copies l + 2

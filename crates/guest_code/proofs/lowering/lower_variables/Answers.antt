@@ -3,13 +3,13 @@ use Rattle.guest_code.specs.Program.{variable_view}
 use Rattle.guest_code.specs.Code.{variable_of}
 use Rattle.guest_code.proofs.LoweredObjects.{objects_more, objects_same, is_variable, not_variable}
 use Rattle.guest_code.proofs.lowering.lower_variables.Goals as goal
-use Rattle.guest_code.proofs.lowering.lower_variables.Goals.{in-Variable+in_ok-variable+in_ok-push, in_default}
+use Rattle.guest_code.proofs.lowering.lower_variables.Goals.{in-Variable+in_ok-lower_variable+in_ok-push, in_default}
 
 pub loop-declaration-preserved : goal.loop-declaration-preserved
 loop-declaration-preserved c = elim c.match-declaration.branch [
-  | in-Variable+in_ok-variable+in_ok-push w ↦
+  | in-Variable+in_ok-lower_variable+in_ok-push w ↦
       let fits : FitsSigned w64 w.in-Variable.opening = search rules in
-      let made = rw (to_z-of_z fits) at w.in_ok-variable.ensures in
+      let made = rw (to_z-of_z fits) at w.in_ok-lower_variable.ensures in
       let pushed = ap (λ v. v.items) w.all-is ∙ w.in_ok-push.ensures.items in
       objects_more variable_of variable_view c.args.declarations.now
       c.loop-declaration.declaration-index c.declaration-item.result

@@ -3,24 +3,24 @@ use Rattle.guest_syntax.specs.Tree.{block_view}
 use Rattle.guest_code.specs.SourceMap.{block_places, copies}
 use Rattle.guest_code.proofs.source_map.+places.Given as goal
 
-abbrev pub decreases-place_block : goal.decreases-place_block
-decreases-place_block l = 3 * goal.size-place_block l + 1
+abbrev pub decreases-push_block_places : goal.decreases-push_block_places
+decreases-push_block_places l = 3 * goal.size-push_block_places l + 1
 
-abbrev pub decreases-place_statement : goal.decreases-place_statement
-decreases-place_statement l = 3 * goal.size-place_statement l
+abbrev pub decreases-push_statement_places : goal.decreases-push_statement_places
+decreases-push_statement_places l = 3 * goal.size-push_statement_places l
 
-abbrev pub decreases-place_copies : goal.decreases-place_copies
-decreases-place_copies l = 3 * goal.size-place_copies l + 2
+abbrev pub decreases-push_repeat_places : goal.decreases-push_repeat_places
+decreases-push_repeat_places l = 3 * goal.size-push_repeat_places l + 2
 
-abbrev pub invariant-place_copies-loop-left : goal.invariant-place_copies-loop-left
-invariant-place_copies-loop-left l =
+abbrev pub invariant-push_repeat_places-loop-left : goal.invariant-push_repeat_places-loop-left
+invariant-push_repeat_places-loop-left l =
     l.places.items ++ copies (block_places (block_view l.body)) l.left
     ≡ l.fn.places.items ++ copies (block_places (block_view l.body)) l.times
 
-abbrev pub invariant-place_block-loop-placed : goal.invariant-place_block-loop-placed
-invariant-place_block-loop-placed l =
+abbrev pub invariant-push_block_places-loop-placed : goal.invariant-push_block_places-loop-placed
+invariant-push_block_places-loop-placed l =
     l.places.items ++ block_places (block_view (drop l.placed-index l.block))
     ≡ l.fn.places.items ++ block_places (block_view l.block)
 
-abbrev pub decreases-place_copies-loop-left : goal.decreases-place_copies-loop-left
-decreases-place_copies-loop-left l = l.left
+abbrev pub decreases-push_repeat_places-loop-left : goal.decreases-push_repeat_places-loop-left
+decreases-push_repeat_places-loop-left l = l.left

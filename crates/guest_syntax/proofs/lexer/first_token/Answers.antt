@@ -5,8 +5,8 @@ use Rattle.guest_syntax.proofs.PlacesInText.{follows_in_same}
 use Rattle.guest_syntax.proofs.RefusalPlaces.{some_bytes, kind_is_in, bad_char_is_in}
 use Rattle.guest_syntax.proofs.lexer.first_token.Goals as goal
 
-pub returns-in_default-clause-within : goal.returns-in_default-clause-within
-returns-in_default-clause-within c =
+pub returns-in_default-clause-refused : goal.returns-in_default-clause-refused
+returns-in_default-clause-refused c =
     let left = c.in_ok-start.start in
     let f = follows_in_same left c.args.text c.in_ok-start.ensures.same in
     bad_char_is_in start c.args.text.at left.at c.args.text.text.now c.args.text.rest.now

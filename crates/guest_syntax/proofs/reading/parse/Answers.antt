@@ -19,8 +19,8 @@ pub returns-then-text-gt-TEXT_BYTES-clause-place : goal.returns-then-text-gt-TEX
 returns-then-text-gt-TEXT_BYTES-clause-place c =
     c.if-text-gt-TEXT_BYTES.true
 
-pub invariant_of-tree : goal.invariant_of-tree
-invariant_of-tree c =
+pub invariant_of-cursor : goal.invariant_of-cursor
+invariant_of-cursor c =
     let text = c.args.text.now in
     let f = nothing_follows text start in
     record {

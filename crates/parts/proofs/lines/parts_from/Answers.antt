@@ -28,14 +28,14 @@ returns-in-Err-clause-refused c =
     (map part_view c.loop-line.parts.items) (rw long turn.0) (rw long turn.1) (rw long turn.2)
     (rw long (next_number c.loop-line.number _ (length c.loop-line.yielded)
     c.loop-line.invariant.number c.saturating_add-number.ensures)) c.loop-line.invariant.are
-    (λ ys fit are. let read = c.push_part.ensures.reads ys fit are in search rules)
+    (λ ys fit are. let read = c.push_unless_blank.ensures.reads ys fit are in search rules)
 
 pub returns-in-Err-clause-reads : goal.returns-in-Err-clause-reads
 returns-in-Err-clause-reads c = λ xs fit lines.
     let turn = next_is (goal.at.returns-in-Err-clause-reads c).In-Some in
     let next = next_line (lines_of c.args.text.now) _ c.in-Some.line.now _ xs turn.1 turn.2 fit
     (c.loop-line.invariant.left xs fit lines) in
-    let read = c.push_part.ensures.reads next.ys next.fit next.are in
+    let read = c.push_unless_blank.ensures.reads next.ys next.fit next.are in
     search rules
 
 pub loop-line-preserved : goal.loop-line-preserved
@@ -59,8 +59,9 @@ loop-line-preserved c =
       left = λ xs fit lines.
           let next = next_line (lines_of c.args.text.now) (length c.loop-line.yielded) line.now
           old xs turn.1 turn.2 fit (c.loop-line.invariant.left xs fit lines) in
-          let read = c.push_part.ensures.reads next.ys next.fit next.are in
-          let same : map part_view c.push_part.new.parts.items ≡ old ++ next.ys = search rules in
+          let read = c.push_unless_blank.ensures.reads next.ys next.fit next.are in
+          let same : map part_view c.push_unless_blank.new.parts.items ≡ old ++ next.ys =
+          search rules in
           rw (count, same) next.left;
     }
 

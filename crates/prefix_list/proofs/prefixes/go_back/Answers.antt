@@ -6,43 +6,43 @@ use Rattle.prefix_list.proofs.prefixes.go_back.Goals as goal
 
 pub loop-init : goal.loop-init
 loop-init c = record {
-  goes = λ w. goes_none c.args.ways.now c.args.count _ _ _ w refl;
+  goes = λ w. goes_none c.args.deltas.now c.args.count _ _ _ w refl;
   room = omega arith;
 }
 
 pub loop-preserved : goal.loop-preserved
 loop-preserved c =
-    let ways = c.args.ways.now in
+    let ways = c.args.deltas.now in
     let given = c.requires in
     let g = c.loop.invariant.goes in
     let short = next_short given.ways ways _ _ c.loop.counter c.loop.at c.loop.last.items (g given)
     (omega (arith, given.more, c.loop-test.true)) in
-    let last : c.step_back.new.last.items ≡ before (take c.loop.at ways) c.loop.last.items =
-    went_well c.step_back.result _ _
-    (c.step_back.ensures.succeeds (omega (arith, short, c.loop.invariant.room)))
-    c.step_back.ensures.done in
+    let last : c.restore_previous.new.last.items ≡ before (take c.loop.at ways) c.loop.last.items =
+    went_well c.restore_previous.result _ _
+    (c.restore_previous.ensures.succeeds (omega (arith, short, c.loop.invariant.room)))
+    c.restore_previous.ensures.done in
     record {
       goes = λ w. goes_on w.ways ways _ _ c.loop.counter c.loop.at c.loop.last.items (g w)
-          (omega (arith, w.more, c.loop-test.true)) _ _ c.top_way-top.ensures.start last
+          (omega (arith, w.more, c.loop-test.true)) _ _ c.last_delta-top.ensures.start last
           (omega (
             arith,
-            c.top_way-top.ensures.ordered,
-            c.top_way-top.ensures.within,
+            c.last_delta-top.ensures.ordered,
+            c.last_delta-top.ensures.within,
             length-take c.loop.at ways,
           ));
-      room = omega (arith, c.loop.invariant.room, c.step_back.ensures.room);
+      room = omega (arith, c.loop.invariant.room, c.restore_previous.ensures.room);
     }
 
-pub slice_bounds-top_way-end : goal.slice_bounds-top_way-end
-slice_bounds-top_way-end c = omega (
+pub slice_bounds-last_delta-end : goal.slice_bounds-last_delta-end
+slice_bounds-last_delta-end c = omega (
   arith,
-  length-take c.loop.at c.args.ways.now,
+  length-take c.loop.at c.args.deltas.now,
   (c.loop.invariant.goes c.requires).within,
 )
 
-pub slice_bounds-step_back-end : goal.slice_bounds-step_back-end
-slice_bounds-step_back-end c = omega (
+pub slice_bounds-restore_previous-end : goal.slice_bounds-restore_previous-end
+slice_bounds-restore_previous-end c = omega (
   arith,
-  length-take c.loop.at c.args.ways.now,
+  length-take c.loop.at c.args.deltas.now,
   (c.loop.invariant.goes c.requires).within,
 )

@@ -28,7 +28,7 @@ loop-piece-preserved c =
           c.loop-piece.schedule.items _ c.unwrap.result c.requires.some turn.0 turn.1 turn.2
           c.requires.readable c.loop-piece.invariant.spelt
           (held_one c.piece_of.result c.in-Some.piece.now c.unwrap.result c.piece_of.ensures
-          c.unwrap.ensures) c.in_ok-put_steps.ensures;
+          c.unwrap.ensures) c.in_ok-push_steps.ensures;
     }
 
 -- all pieces

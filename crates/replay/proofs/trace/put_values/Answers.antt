@@ -10,5 +10,5 @@ loop-x-preserved c =
     let fits : FitsSigned w64 value = search rules in
     values_more c.args.program.now c.args.values.now c.loop-x.x c.args.text.now.items
     c.loop-x.text.items _ _ _ _ (pos 0) c.loop-x-test.true c.loop-x.invariant
-    c.in_ok-put_name.ensures c.variable_name.ensures c.in_ok-put_value.ensures
+    c.in_ok-put_two_texts.ensures c.variable_name.ensures c.in_ok-put_value.ensures
     (to_z-of_z w64 value fits)

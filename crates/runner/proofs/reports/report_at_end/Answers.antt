@@ -8,8 +8,8 @@ use Rattle.runner.specs.inner.Judging.{IsFound, Ends}
 use Rattle.runner.proofs.Judgments.{found_of_program, cut_at_end}
 use Rattle.runner.proofs.reports.report_at_end.Goals as goal
 
-pub report_whole-requires-clause-bad : goal.report_whole-requires-clause-bad
-report_whole-requires-clause-bad c =
+pub whole_report-requires-clause-bad : goal.whole_report-requires-clause-bad
+whole_report-requires-clause-bad c =
     found_of_program c.args.book.now.quick c.args.program.now c.mode-mode.result
     c.in-Some.summary.now c.in-Some.ensures.found
 
@@ -17,10 +17,10 @@ pub returns-in-Some-clause-report : goal.returns-in-Some-clause-report
 returns-in-Some-clause-report c =
     let p = c.args.program.now in
     let at = c.requires.at in
-    IfOk-weaker c.report_whole.result _ _ (λ r is may ends.
+    IfOk-weaker c.whole_report.result _ _ (λ r is may ends.
     is may (subst (HasPassed (root_of p)) (sym c.mode-mode.ensures) at.passed)
     (subst (λ (q : Bool). IsFound q p c.mode-mode.result c.in-Some.summary.now) at.is.quick
-    c.in-Some.ensures.found)) c.report_whole.ensures.report
+    c.in-Some.ensures.found)) c.whole_report.ensures.report
 
 pub returns-in-Cut-clause-report : goal.returns-in-Cut-clause-report
 returns-in-Cut-clause-report c =
@@ -30,7 +30,7 @@ returns-in-Cut-clause-report c =
     IfOk-weaker c.report_in.result _ _ (λ r is may ends.
     subst (IsReport may p o) (sym is)
     (cut_at_end may p o b c.mode-mode.result c.finished.result.now c.in-Cut.cause
-    c.last_finished-finished.result c.mode-mode.ensures c.finished.ensures.finished c.requires.at
-    c.finished.ensures.kept
+    c.last_finished_bound-finished.result c.mode-mode.ensures c.finished.ensures.finished
+    c.requires.at c.finished.ensures.kept
     (subst (λ (e : Ending). Ends may o b e) c.in-Cut.is ends).0
-    c.last_finished-finished.ensures)) c.report_in.ensures.report
+    c.last_finished_bound-finished.ensures)) c.report_in.ensures.report

@@ -33,8 +33,8 @@ returns-in-Some-clause-levels g c =
     let low : end < preemptions i.program i.prefix =
     let l = past.1 in omega (arith, l, number) in
     past_levels_end (g.G.Gate.stops c.args.gate.now) o.search o.limit i end
-    c.in_ok-levels.levels.items c.push.new.self.items c.level_past.result runs past.0 low
-    (c.in_ok-levels.ensures.levels i runs (omega (arith, low))) c.level_past.ensures
+    c.in_ok-levels.levels.items c.push.new.self.items c.untried_level.result runs past.0 low
+    (c.in_ok-levels.ensures.levels i runs (omega (arith, low))) c.untried_level.ensures
     c.in_ok-push.ensures.items
 
 pub returns-clause-levels : goal.returns-clause-levels

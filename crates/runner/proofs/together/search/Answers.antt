@@ -12,7 +12,7 @@ returns-in-Some-next-clause-ended g c =
     let o = c.args.course.options in
     let may = g.G.Gate.stops c.args.gate.now in
     let mid = c.in_ok-next.next.book in
-    let new = c.after_round.new.book in
+    let new = c.judge_and_raise.new.book in
     let same = c.in_ok-next.ensures.book in
     let of : mid.of ≡ i = same.of ∙ c.loop.invariant.2.is.of in
     let stopped : c.in_ok-stopped.stopped ≡ true → may ≡ true =
@@ -22,7 +22,7 @@ returns-in-Some-next-clause-ended g c =
     record {
       options = refl;
       at = subst (λ (x : ItemView). IsAt x o new) of c.in_ok-next-2.ensures.at;
-      levels = λ keeps levels. kept_on keeps mid.of i new.mode new.mode c.after_round.new.levels
+      levels = λ keeps levels. kept_on keeps mid.of i new.mode new.mode c.judge_and_raise.new.levels
           (sym of) refl (c.in_ok-next-2.ensures.levels keeps
           (kept_on keeps i mid.of c.loop.team.book.mode mid.mode c.loop.levels of same.mode
           (c.loop.invariant.3 keeps levels)));
@@ -34,13 +34,13 @@ loop-preserved g c =
     let i = c.args.course.book.of in
     let o = c.args.course.options in
     let mid = c.in_ok-next.next.book in
-    let new = c.after_round.new.book in
+    let new = c.judge_and_raise.new.book in
     let same = c.in_ok-next.ensures.book in
     let of : mid.of ≡ i = same.of ∙ c.loop.invariant.2.is.of in (
       tt,
       tt,
       subst (λ (x : ItemView). IsAt x o new) of c.in_ok-next-2.ensures.at,
-      λ keeps levels. kept_on keeps mid.of i new.mode new.mode c.after_round.new.levels (sym of)
+      λ keeps levels. kept_on keeps mid.of i new.mode new.mode c.judge_and_raise.new.levels (sym of)
           refl (c.in_ok-next-2.ensures.levels keeps
           (kept_on keeps i mid.of c.loop.team.book.mode mid.mode c.loop.levels of same.mode
           (c.loop.invariant.3 keeps levels))),

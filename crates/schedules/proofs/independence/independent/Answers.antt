@@ -12,8 +12,8 @@ returns-then-thread-other-clause-value c =
 
 pub returns-clause-value : goal.returns-clause-value
 returns-clause-value c =
-    c.next_steps_apart.ensures
-    ∙ ((λ i. apart (c.next.ensures.value i) (c.next-2.ensures.value i))
+    c.are_next_steps_independent.ensures
+    ∙ ((λ i. apart (c.next_action.ensures.value i) (c.next_action-2.ensures.value i))
     ∙ sym (independent-differ c.args.program.now c.args.state.now c.args.thread c.args.other
     c.if-thread-other.false))
 

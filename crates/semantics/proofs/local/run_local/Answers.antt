@@ -7,6 +7,6 @@ loop-next-preserved c = record {
   within = c.in-Runs.ensures.further.1;
   same = turn_run c.args.code.now
       (record { pc = c.loop-next.at; locals = c.loop-next.locals; status = c.args.status })
-      c.next_local.new.locals _ c.in-Runs.ensures.turn c.in-Runs.ensures.locals
+      c.run_if_local.new.locals _ c.in-Runs.ensures.turn c.in-Runs.ensures.locals
       ∙ c.loop-next.invariant.same;
 }

@@ -12,8 +12,8 @@ returns-then-not-is_clean-clause-answer g c =
     let l = c.args.limits in
     let f = c.in_ok-found.found in
     let dirty : is_clean f.report.verdict ≡ false = search rules in
-    let told : c.answer_of.result ≡ answer_of f.bad c.args.known c.loop-bound.bound =
-    c.answer_of.ensures
+    let told : c.bad_or_undecided.result ≡ answer_of f.bad c.args.known c.loop-bound.bound =
+    c.bad_or_undecided.ensures
     ∙ ap (λ k. answer_of f.bad k c.loop-bound.bound) c.loop-bound.invariant.known in
     subst (AnswerMeans p l) (sym told)
     (stopped_at p l f c.args.known c.loop-bound.bound c.in_ok-found.ensures.found dirty
@@ -28,8 +28,9 @@ returns-clause-answer g c =
     let over : c.loop-bound.bound ≡ c.bound_count-stop.result = search rules in
     let none : NoBadBelow p (stop_of c.args.known l.bound) =
     subst (NoBadBelow p) (over ∙ stop) c.loop-bound.invariant.none in
-    let told : c.answer_of-2.result ≡ answer_of None c.args.known (stop_of c.args.known l.bound) =
-    c.answer_of-2.ensures
+    let told : c.bad_or_undecided-2.result
+    ≡ answer_of None c.args.known (stop_of c.args.known l.bound) =
+    c.bad_or_undecided-2.ensures
     ∙ (ap (λ k. answer_of None k c.bound_count-stop.result) c.loop-bound.invariant.known
     ∙ ap (λ k. answer_of None c.args.known k) stop) in
     subst (AnswerMeans p l) (sym told)

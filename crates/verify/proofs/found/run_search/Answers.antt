@@ -4,8 +4,8 @@ use Rattle.report.specs.Reports.{IsBadSchedule}
 use Rattle.verify.proofs.Shows.{named_is_bad}
 use Rattle.verify.proofs.found.run_search.Goals as goal
 
-pub named_bad-requires : goal.named_bad-requires
-named_bad-requires g c w e =
+pub named_bad_schedule-requires : goal.named_bad_schedule-requires
+named_bad_schedule-requires g c w e =
     subst (λ (p : Program). IsBadSchedule p w) (sym c.deref.ensures)
     (named_is_bad _ _ c.options_of-options.result c.in_ok-report.report c.in_ok-report.ensures.report
     w e)

@@ -28,8 +28,8 @@ loop-at-preserved c =
       each = λ steps t.
           let Q : Mark → Type 0 = λ mark. IsFate code from steps t at 0 (fate_by mark) in
           let R : Fate → Type 0 = λ fate. IsFate code from steps t at 0 fate in
-          let next = subst R (sym c.of.ensures)
+          let next = subst R (sym c.from_mark.ensures)
           (subst Q (sym mark) (fate_by_marks marks code from steps t at begun c.loop-at-test.true)) in
-          fates_more code from steps t at old new c.of.result c.loop-at.invariant.count pushed
+          fates_more code from steps t at old new c.from_mark.result c.loop-at.invariant.count pushed
           (c.loop-at.invariant.each steps t) next;
     }

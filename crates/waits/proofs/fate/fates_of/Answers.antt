@@ -15,11 +15,11 @@ returns c =
     let from = c.end_pc.result in
     let steps = c.steps.result.now in
     let old = c.in_ok-fates.fates.items in
-    let new = c.mark_steps.new.fates in
+    let new = c.mark_all_taken.new.fates in
     let before : AreFates code from steps t 0 old = c.in_ok-fates.ensures steps t in
     let begun = let P : List Fate → Type 0 = λ l. AreFates code from steps t 0 l in
     subst P (sym c.deref_mut.ensures.value) before in
-    let are = c.mark_steps.ensures code from begun in
+    let are = c.mark_all_taken.ensures code from begun in
     let long : length new ≡ length old = are.all ∙ sym before.all in
     let whole = ap length (sym c.deref_mut.ensures.value) ∙ c.deref_mut.ensures.len in
     subst (Fates p told t) (sym (written_back c.in_ok-fates.fates.len old new long whole))

@@ -9,23 +9,23 @@ use Rattle.book.proofs.Gathered.{walked_within, settled_together}
 use Rattle.book.proofs.books.Book.settle_all.Goals as goal
 use Rattle.book.proofs.books.Book.settle_all.Goals.{After-as_slice}
 
-pub places_of-requires-clause-places : goal.places_of-requires-clause-places
-places_of-requires-clause-places c =
+pub unpack_and_find-requires-clause-places : goal.unpack_and_find-requires-clause-places
+unpack_and_find-requires-clause-places c =
     let f = c.requires.walked in
     walked_within c.args.self.now.mode c.args.items.now c.args.places.now f.walks f.of
 
-pub places_of-requires-clause-run : goal.places_of-requires-clause-run
-places_of-requires-clause-run c =
+pub unpack_and_find-requires-clause-run : goal.unpack_and_find-requires-clause-run
+unpack_and_find-requires-clause-run c =
     run_of c.self.inside.open_items.packed c.shared_program.ensures
     (open_run (book_of c.self.inside) c.self.inside.open_items refl c.self.invariant.0)
 
-pub places_of-requires-clause-unpacked : goal.places_of-requires-clause-unpacked
-places_of-requires-clause-unpacked c =
+pub unpack_and_find-requires-clause-unpacked : goal.unpack_and_find-requires-clause-unpacked
+unpack_and_find-requires-clause-unpacked c =
     subst (λ p. AreOf p c.self.inside.open_items.unpacked) (sym c.shared_program.ensures)
     (unpacked_own (book_of c.self.inside) c.self.inside.open_items refl c.self.invariant.0)
 
-pub places_of-requires-clause-program : goal.places_of-requires-clause-program
-places_of-requires-clause-program c =
+pub unpack_and_find-requires-clause-program : goal.unpack_and_find-requires-clause-program
+unpack_and_find-requires-clause-program c =
     subst (λ p. AreOf p c.args.items.now) (sym c.shared_program.ensures)
     (subst (λ (z : BookView). AreOf z.of.program c.args.items.now) (sym c.self.view_is)
     c.requires.program)
@@ -46,10 +46,10 @@ there c =
 
 -- to unpack items changes nothing in the book
 moved : (c : After-as_slice) →
-    book_of (record c.self.inside { open_items = c.places_of.new.self }) ≡ c.args.self.now
+    book_of (record c.self.inside { open_items = c.unpack_and_find.new.self }) ≡ c.args.self.now
 moved c =
     ap (λ is. record (book_of c.self.inside) { open_items = is })
-    (same_of c.places_of.new.self c.self.inside.open_items c.shared_program.ensures
+    (same_of c.unpack_and_find.new.self c.self.inside.open_items c.shared_program.ensures
     c.in_ok-open_at.ensures.same)
     ∙ c.self.view_is
 

@@ -35,9 +35,9 @@ pub append_prefixes-requires : goal.append_prefixes-requires
 append_prefixes-requires c =
     let b = c.args.self.now in
     let found = c.args.found.now in
-    run_of c.listed_of-listed.result.now c.shared_program-program.ensures
+    run_of c.listed_prefixes-listed.result.now c.shared_program-program.ensures
     (subst (λ ps. All IsItem (items_at c.self.inside.of.program ps))
-    (sym c.listed_of-listed.ensures)
+    (sym c.listed_prefixes-listed.ensures)
     (subst (λ (z : BookView). All IsItem (items_at z.of.program (listed_if z.lists found.deferred)))
     (sym c.self.view_is)
     (subst (All IsItem) (sym (listed_items b.of.program b.lists found.deferred))
@@ -111,15 +111,15 @@ not_joined c =
     let waiting = same_of c.unpack_from-2.new.self c.self.inside.deferred own
     c.unpack_from-2.ensures.same in
     let more = more_of c.append_prefixes.new.self c.unpack_from-2.new.self
-    c.listed_of-listed.result.now own c.in_ok-append_prefixes.ensures.all in
+    c.listed_prefixes-listed.result.now own c.in_ok-append_prefixes.ensures.all in
     same_book b c.join_in.new.self (all_of p c.reserve.new.self) (all_of p c.truncate.new.self)
     c.in-Err.ensures.joined
     (still_there p c.unpack_from.new.self c.reserve.new.self b.open_items opened
     c.reserve.ensures.packed c.reserve.ensures.unpacked)
-    (taken_back b.deferred (items_at p c.listed_of-listed.result.now)
+    (taken_back b.deferred (items_at p c.listed_prefixes-listed.result.now)
     (all_of p c.append_prefixes.new.self) (all_of p c.truncate.new.self)
     c.len-deferred_len.result
-    (more ∙ ap (λ is. is ++ items_at p c.listed_of-listed.result.now) waiting)
+    (more ∙ ap (λ is. is ++ items_at p c.listed_prefixes-listed.result.now) waiting)
     (c.len-deferred_len.ensures p) (c.truncate.ensures.items p))
 
 pub invariant_of-self-in-Err : goal.invariant_of-self-in-Err
@@ -152,7 +152,7 @@ append-requires c =
 pub remove_each-requires-clause-unpacked : goal.remove_each-requires-clause-unpacked
 remove_each-requires-clause-unpacked c =
     let n = c.in_ok-unpack_from.ensures.unpacked in
-    let m = c.first_unpacked.ensures.place in
+    let m = c.unpack_start.ensures.place in
     let same = ap length (c.append.ensures.packed ∙ c.reserve.ensures.packed) in
     All-weaker (λ k. c.args.first ≤ k) (λ k. length c.append.new.self.packed ≤ k)
     (λ k l. omega (arith, n, m, same, l)) c.args.places.now c.requires.first
@@ -197,7 +197,7 @@ settled c =
     let waiting = same_of c.unpack_from-2.new.self c.self.inside.deferred own
     c.unpack_from-2.ensures.same in
     let more = more_of c.append_prefixes.new.self c.unpack_from-2.new.self
-    c.listed_of-listed.result.now own c.in_ok-append_prefixes.ensures.all in
+    c.listed_prefixes-listed.result.now own c.in_ok-append_prefixes.ensures.all in
     let items = open_taken p c.reserve.new.self c.append.new.self c.remove_each.new.self
     b.open_items found.rest.items places
     (still_there p c.unpack_from.new.self c.reserve.new.self b.open_items opened
@@ -206,7 +206,7 @@ settled c =
     λ k. record b {
       finished = c.in_default.ensures.joined k;
       open_items = items k;
-      deferred = (more ∙ (λ j. waiting j ++ (ap (items_at p) c.listed_of-listed.ensures
+      deferred = (more ∙ (λ j. waiting j ++ (ap (items_at p) c.listed_prefixes-listed.ensures
           ∙ listed_items p b.lists found.deferred) j)) k;
     }
 
@@ -217,19 +217,19 @@ invariant_of-self-2 c =
     let taken : BookView → BookView =
     λ z. taken_in z (remove_each z.open_items c.args.places.now) found in (
       subst Keeps (sym (settled c ∙ ap taken c.self.view_is)) c.requires.keeps,
-      subst (IsSwept (c.self.inside.swept && c.is_quiet-quiet.result)) (sym (settled c))
-          (taken_swept c.self.inside.swept c.is_quiet-quiet.result b c.args.places.now found
-          c.self.invariant.1 c.is_quiet-quiet.ensures),
+      subst (IsSwept (c.self.inside.swept && c.adds_nothing_to_drop-quiet.result)) (sym (settled c))
+          (taken_swept c.self.inside.swept c.adds_nothing_to_drop-quiet.result b c.args.places.now found
+          c.self.invariant.1 c.adds_nothing_to_drop-quiet.ensures),
       unpacked_after c.may_pack-packs.result c.self.inside.quick c.self.inside.finished.first_bad
           found.part.first_bad c.join_in.new.self.first_bad c.remove_each.new.self.packed
           c.append_prefixes.new.self.packed c.may_pack-packs.ensures
           (λ n. (
             c.remove_each.ensures.packed ∙ (c.append.ensures.packed ∙ (c.reserve.ensures.packed
-                ∙ none_there c.unpack_from.new.self.packed c.first_unpacked.result
-                c.in_ok-unpack_from.ensures.unpacked (c.first_unpacked.ensures.none n))),
+                ∙ none_there c.unpack_from.new.self.packed c.unpack_start.result
+                c.in_ok-unpack_from.ensures.unpacked (c.unpack_start.ensures.none n))),
             c.append_prefixes.ensures.packed n
-                ∙ none_there c.unpack_from-2.new.self.packed c.first_unpacked-2.result
-                c.in_ok-unpack_from-2.ensures.unpacked (c.first_unpacked-2.ensures.none n),
+                ∙ none_there c.unpack_from-2.new.self.packed c.unpack_start-2.result
+                c.in_ok-unpack_from-2.ensures.unpacked (c.unpack_start-2.ensures.none n),
           ))
           (ap (λ (z : SummaryView). z.first_bad) c.in_default.ensures.joined
           ∙ join_first_bad b.finished found.part),

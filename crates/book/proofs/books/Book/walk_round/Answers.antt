@@ -21,8 +21,8 @@ loop-place-init c =
           (omega arith) c.clear.ensures.part c.clear.ensures.rest c.clear.ensures.deferred;
     }
 
-pub walk_on-requires-clause-program : goal.walk_on-requires-clause-program
-walk_on-requires-clause-program c =
+pub walk_into-requires-clause-program : goal.walk_into-requires-clause-program
+walk_into-requires-clause-program c =
     let b = book_of c.self.inside in
     let at = open_at b _ _ c.loop-place.place _ c.self.invariant.0
     (same_of c.unpack_from.new.self c.self.inside.open_items c.shared_program.ensures
@@ -46,16 +46,16 @@ loop-place-preserved c =
     (c.len-end.ensures b.of.program) c.loop-place-test.true
     (c.unpacked_item-item.ensures b.of.program) in
     let more = added_tried c.self.inside.mode item c.args.quota c.loop-place.found
-    c.walk_on.new.found c.in_ok-walk_on.ensures.added in
+    c.walk_into.new.found c.in_ok-walk_into.ensures.added in
     record {
-      walker = c.walk_on.ensures.program ∙ c.loop-place.invariant.walker;
-      lists = c.in_ok-walk_on.ensures.added.lists ∙ c.loop-place.invariant.lists;
+      walker = c.walk_into.ensures.program ∙ c.loop-place.invariant.walker;
+      lists = c.in_ok-walk_into.ensures.added.lists ∙ c.loop-place.invariant.lists;
       tried = omega (arith, tried, more, quota);
       walked = subst (λ (z : BookView). IsFoundFrom z c.saturating_sub-first.result
-          (c.loop-place.place + 1 - c.saturating_sub-first.result) c.args.quota c.walk_on.new.found)
+          (c.loop-place.place + 1 - c.saturating_sub-first.result) c.args.quota c.walk_into.new.found)
           c.self.view_is
           (round_goes_on b item c.saturating_sub-first.result c.loop-place.place c.args.quota
-          c.loop-place.found c.walk_on.new.found from at.0 at.1 c.in_ok-walk_on.ensures.added
+          c.loop-place.found c.walk_into.new.found from at.0 at.1 c.in_ok-walk_into.ensures.added
           (subst (λ (z : BookView). IsFoundFrom z c.saturating_sub-first.result
           (c.loop-place.place - c.saturating_sub-first.result) c.args.quota c.loop-place.found)
           (sym c.self.view_is) c.loop-place.invariant.walked));

@@ -43,8 +43,8 @@ loop-k-preserved c =
       packed = c.loop-k.invariant.packed;
     }
 
-pub remove-requires-clause-end : goal.remove-requires-clause-end
-remove-requires-clause-end c =
+pub remove_range-requires-clause-end : goal.remove_range-requires-clause-end
+remove_range-requires-clause-end c =
     let p = c.requires.within.0 in
     let all = length-all p c.args.self.now in
     let some = c.in-Some.ensures in
@@ -70,6 +70,6 @@ returns-in-Some-clause-items c = λ p.
     let some = c.in-Some.ensures in
     let most = within_same (all_of c.requires.within.0 v) c.in-Some.first c.args.places.now some.1
     some.0 c.requires.within.1 in
-    c.remove.ensures.items p
+    c.remove_range.ensures.items p
     ∙ sym (each_same (all_of p v) c.in-Some.first c.args.places.now some.1
     (omega (arith, most, all, same))).1

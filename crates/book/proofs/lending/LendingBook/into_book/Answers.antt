@@ -86,10 +86,10 @@ invariant_of-result c =
       λ q bad. let packs : c.may_pack-packs.result ≡ false =
           packs_none c.may_pack-packs.result i.quick i.finished.first_bad i.finished.first_bad
           c.may_pack-packs.ensures q bad in (
-            none_there c.unpack_from.new.self.packed c.first_unpacked-first.result
-                c.in_ok-unpack_from.ensures.unpacked (c.first_unpacked-first.ensures.none packs),
-            none_there c.unpack_from-2.new.self.packed c.first_unpacked-first-2.result
+            none_there c.unpack_from.new.self.packed c.unpack_start-first.result
+                c.in_ok-unpack_from.ensures.unpacked (c.unpack_start-first.ensures.none packs),
+            none_there c.unpack_from-2.new.self.packed c.unpack_start-first-2.result
                 c.in_ok-unpack_from-2.ensures.unpacked
-                (c.first_unpacked-first-2.ensures.none packs),
+                (c.unpack_start-first-2.ensures.none packs),
           ),
     )

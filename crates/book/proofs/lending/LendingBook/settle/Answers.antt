@@ -93,9 +93,9 @@ append_prefixes-requires c =
     let run : All IsItem (v.deferred ++ listed_if v.lists (items_at v.of.program found.deferred)) =
     waiting_run (as_book after)
     (settled_loan v c.args.worker _ found (has d) (keeps d) (lists d) c.requires.walked).1 in
-    run_of c.listed_of-listed.result.now c.shared_program-program.ensures
+    run_of c.listed_prefixes-listed.result.now c.shared_program-program.ensures
     (subst (λ ps. All IsItem (items_at c.self.inside.of.program ps))
-    (sym c.listed_of-listed.ensures)
+    (sym c.listed_prefixes-listed.ensures)
     (subst (λ (z : LendingView). All IsItem
     (items_at z.of.program (listed_if z.lists found.deferred)))
     (sym c.self.view_is)
@@ -119,10 +119,10 @@ not_joined c =
     let mine = map-set (all_of p) i.lent.items c.args.worker lent
     ∙ set_same b.lent c.args.worker (all_of p lent)
     (lent_at p i.lent.items c.args.worker lent there at) in
-    let put_off = taken_back b.deferred (items_at p c.listed_of-listed.result.now)
+    let put_off = taken_back b.deferred (items_at p c.listed_prefixes-listed.result.now)
     (all_of p c.append_prefixes.new.self) (all_of p c.truncate.new.self)
     c.len-deferred_len.result
-    (more_of c.append_prefixes.new.self i.deferred c.listed_of-listed.result.now
+    (more_of c.append_prefixes.new.self i.deferred c.listed_prefixes-listed.result.now
     c.shared_program-program.ensures c.in_ok-append_prefixes.ensures.all)
     (c.len-deferred_len.ensures p) (c.truncate.ensures.items p) in
     λ k. record b {
@@ -159,10 +159,10 @@ settled c =
     λ k. items_at p (c.clear.ensures.packed k) ++ c.clear.ensures.unpacked k in
     let mine = map-set (all_of p) i.lent.items c.args.worker c.clear.new.self
     ∙ ap (set b.lent c.args.worker) none in
-    let put_off = more_of c.append_prefixes.new.self i.deferred c.listed_of-listed.result.now
+    let put_off = more_of c.append_prefixes.new.self i.deferred c.listed_prefixes-listed.result.now
     c.shared_program-program.ensures c.in_ok-append_prefixes.ensures.all
     ∙ ap (λ is. b.deferred ++ is)
-    (ap (items_at p) c.listed_of-listed.ensures ∙ listed_items p b.lists found.deferred) in
+    (ap (items_at p) c.listed_prefixes-listed.ensures ∙ listed_items p b.lists found.deferred) in
     (λ k. record b {
       finished = c.in_default-join_in.ensures.joined k;
       free = free k;

@@ -11,8 +11,8 @@ use Rattle.machine.proofs.control.Control.run.Goals as goal
 pub loop-going-init : goal.loop-going-init
 loop-going-init c = record {
   thread = refl;
-  running = c.can_go_on-going.ensures.running;
-  one = λ e. (c.can_go_on-going.ensures.alone e, refl);
+  running = c.may_extend_run-going.ensures.running;
+  one = λ e. (c.may_extend_run-going.ensures.alone e, refl);
   going = λ s ready.
       let p = c.args.program.now in
       let t = c.args.thread in
@@ -25,16 +25,16 @@ loop-going-init c = record {
 
 pub loop-going-preserved : goal.loop-going-preserved
 loop-going-preserved c = record {
-  thread = c.run_instruction-going.ensures.thread ∙ c.loop-going.invariant.thread;
-  running = c.run_instruction-going.ensures.running;
+  thread = c.try_instruction-going.ensures.thread ∙ c.loop-going.invariant.thread;
+  running = c.try_instruction-going.ensures.running;
   one = λ e. (let off = (c.loop-going.invariant.one e).0 in
       let no : true ≡ false = sym c.loop-going-test.true ∙ off in absurd (cc));
   going = λ s ready.
       let p = c.args.program.now in
       let known = c.loop-going.invariant in
-      subst (λ t. IsGoing p s t c.run_instruction-going.new.self c.run_instruction-going.new.shared
-      c.run_instruction-going.new.own c.run_instruction-going.new.moving) known.thread
-      (c.run_instruction-going.ensures.going s
+      subst (λ t. IsGoing p s t c.try_instruction-going.new.self c.try_instruction-going.new.shared
+      c.try_instruction-going.new.own c.try_instruction-going.new.moving) known.thread
+      (c.try_instruction-going.ensures.going s
       (subst (λ t. IsGoing p s t c.loop-going.self c.loop-going.shared c.loop-going.own
       c.loop-going.moving) (sym known.thread) (known.going s ready)));
 }
@@ -44,16 +44,16 @@ loop-going-smaller c =
     let p = c.args.program.now in
     let s = c.requires.0 in
     let known = c.loop-going.invariant in
-    let more = c.run_instruction-going.ensures.going s
+    let more = c.try_instruction-going.ensures.going s
     (subst (λ t. IsGoing p s t c.loop-going.self c.loop-going.shared c.loop-going.own
     c.loop-going.moving) (sym known.thread) (known.going s c.requires.1)) in
     let same = ap (λ (is : List Instruction). length is) c.code-code.ensures.code in
     let thread = ap (λ t. length (code_of p t)) known.thread in
     comes_further (length c.code-code.result.now) c.loop-going.moving.place
-    c.run_instruction-going.new.moving.place c.loop-going.going c.run_instruction-going.result
+    c.try_instruction-going.new.moving.place c.loop-going.going c.try_instruction-going.result
     c.loop-going-test.true
-    c.run_instruction-going.ensures.place (omega (arith, more.within, same, thread))
-    c.run_instruction-going.ensures.further
+    c.try_instruction-going.ensures.place (omega (arith, more.within, same, thread))
+    c.try_instruction-going.ensures.further
 
 pub returns-clause-runs : goal.returns-clause-runs
 returns-clause-runs c = λ s ready.

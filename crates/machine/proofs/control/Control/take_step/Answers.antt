@@ -19,8 +19,8 @@ retake-requires-clause-ready c =
           c.args.own.now ready c.requires.place valid.fine,
     )
 
-pub returns-then-contains : goal.returns-then-contains
-returns-then-contains c = λ s ready.
+pub returns-then-has : goal.returns-then-has
+returns-then-has c = λ s ready.
     let p = c.args.program.now in
     let t = c.args.thread in
     let few = enabled_below p s t ready.enabled in
@@ -31,7 +31,7 @@ returns-then-contains c = λ s ready.
     (valid_at p s t c.args.self.now c.args.instruction.now c.args.shared.now c.args.own.now ready
     c.requires.place valid.fine)
     (retakes_at p s t c.args.self.now c.args.instruction.now c.args.shared.now c.args.own.now ready
-    c.requires.place (sym c.contains.ensures ∙ c.if-contains.true)) ready.enabled
+    c.requires.place (sym c.has.ensures ∙ c.if-has.true)) ready.enabled
 
 pub perform-requires-clause-ready : goal.perform-requires-clause-ready
 perform-requires-clause-ready c =
@@ -44,7 +44,7 @@ perform-requires-clause-ready c =
     c.keeps_limits.ensures.codes t no_thread (omega (arith, few, ready.of.threads)) in (
       s,
       poised_at p s t c.args.self.now c.args.instruction.now c.args.shared.now c.args.own.now ready
-          c.requires.place valid.fine (sym c.contains.ensures ∙ c.if-contains.false),
+          c.requires.place valid.fine (sym c.has.ensures ∙ c.if-has.false),
     )
 
 pub returns : goal.returns
@@ -56,4 +56,4 @@ returns c = λ s ready.
     c.keeps_limits.ensures.codes t no_thread (omega (arith, few, ready.of.threads)) in
     c.perform.ensures s
     (poised_at p s t c.args.self.now c.args.instruction.now c.args.shared.now c.args.own.now ready
-    c.requires.place valid.fine (sym c.contains.ensures ∙ c.if-contains.false))
+    c.requires.place valid.fine (sym c.has.ensures ∙ c.if-has.false))

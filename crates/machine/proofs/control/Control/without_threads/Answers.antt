@@ -15,10 +15,10 @@ returns c = subst (λ (x : Control). IsOpenedTo c.args.program.now (start c.args
       woken = c.empty-3.ensures i;
       places = replicate 16 0;
       owners = replicate 8 FREE;
-      counts = c.opening_counts.result;
+      counts = c.initial_counts.result;
       mutexes = replicate 8 (c.empty-4.ensures i);
       semaphores = replicate 8 (c.empty-5.ensures i);
       lengths = replicate 8 0;
     }))
-    (unbegun_is c.args.program.now c.threads_of.result c.opening_counts.result c.threads_of.ensures
-    c.opening_counts.ensures)
+    (unbegun_is c.args.program.now c.threads_of.result c.initial_counts.result c.threads_of.ensures
+    c.initial_counts.ensures)

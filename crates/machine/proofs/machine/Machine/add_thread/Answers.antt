@@ -6,8 +6,8 @@ use Rattle.semantics.specs.Machine.{Snapshot, thread_at}
 use Rattle.machine.proofs.Openings.{opening_more, opening_room}
 use Rattle.machine.proofs.machine.Machine.add_thread.Goals as goal
 
-pub arrive-requires-clause-pc : goal.arrive-requires-clause-pc
-arrive-requires-clause-pc c =
+pub place_thread-requires-clause-pc : goal.place_thread-requires-clause-pc
+place_thread-requires-clause-pc c =
     let there : c.args.thread < length c.args.state.now.threads =
     omega (arith, c.requires.thread, c.requires.of.threads) in
     omega (
@@ -30,7 +30,7 @@ returns-clause-opening c =
     ≡ take c.args.self.now.shape.width (thread_at c.args.state.now c.args.thread).locals =
     ap (take c.args.self.now.shape.width) c.locals.ensures in
     opening_more p s k c.args.self.now _ (take w c.locals.result.now) there c.requires.opening
-    (c.arrive.ensures.lands p s (thread_at s k) c.requires.opening.control.objects
+    (c.place_thread.ensures.lands p s (thread_at s k) c.requires.opening.control.objects
     (c.requires.opening.control.idle k (omega arith) there)
     (record { pc = c.pc.ensures; status = c.status.ensures }) c.code.ensures.code)
     c.in_ok-extend_from_slice.ensures.items (length-take-le w c.locals.result.now

@@ -21,9 +21,9 @@ returns c = λ p s shows on.
     let at = c.index-2.result.now in
     let kept = c.index-2.ensures
     ∙ ap (λ r. get_or r.items (get_or m.control.places t 0) at) c.index.ensures in
-    elim (either c.contains-woken.result) [
+    elim (either c.has-woken.result) [
       | inl e ↦ rw e (ap (λ xs. get_or xs 1 (touch_of None)) kept
-          ∙ touches_woken p m s t shows on row at (sym c.contains-woken.ensures ∙ e))
+          ∙ touches_woken p m s t shows on row at (sym c.has-woken.ensures ∙ e))
       | inr e ↦ rw e (ap (λ xs. get_or xs 0 (touch_of None)) kept
-          ∙ touches_running p m s t shows on row at (sym c.contains-woken.ensures ∙ e))
+          ∙ touches_running p m s t shows on row at (sym c.has-woken.ensures ∙ e))
     ]

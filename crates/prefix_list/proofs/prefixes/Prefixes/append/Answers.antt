@@ -57,8 +57,8 @@ grown_at c =
     let count : j.front ≡ length start =
     omega (arith, length-take j.front j.bytes.items, c.other.invariant.0) in
     let way = way_bytes (length start - k) t in
-    let wrote : c.put_way.new.bytes.items ≡ i.bytes.items ++ way =
-    c.in_ok-put_way.ensures ∙ ap (λ n. i.bytes.items ++ way_bytes (n - k) t) count in
+    let wrote : c.put_delta.new.bytes.items ≡ i.bytes.items ++ way =
+    c.in_ok-put_delta.ensures ∙ ap (λ n. i.bytes.items ++ way_bytes (n - k) t) count in
     let D = c.deref-3.result.now in
     let read : take (length D - j.front) (drop j.front D) ≡ ways =
     take_rest D j.front ∙ ap (drop j.front) c.deref-3.ensures.value in
@@ -116,13 +116,13 @@ overflow_add-self c =
     let m = packed_few j.count (drop j.front j.bytes.items) j.last.items
     (take j.front j.bytes.items) (vec_capacity j.last) c.other.invariant.1 in
     let t = take (length c.deref-2.result.now - k) (drop k c.deref-2.result.now) in
-    let wrote : c.put_way.new.bytes.items ≡ i.bytes.items ++ way_bytes (j.front - k) t =
-    c.in_ok-put_way.ensures in
+    let wrote : c.put_delta.new.bytes.items ≡ i.bytes.items ++ way_bytes (j.front - k) t =
+    c.in_ok-put_delta.ensures in
     let D = c.deref-3.result.now in
     let more = take (length D - j.front) (drop j.front D) in
     let read : more ≡ drop j.front j.bytes.items =
     take_rest D j.front ∙ ap (drop j.front) c.deref-3.ensures.value in
-    let joined : c.extend_from_slice.new.self.items ≡ c.put_way.new.bytes.items ++ more =
+    let joined : c.extend_from_slice.new.self.items ≡ c.put_delta.new.bytes.items ++ more =
     c.in_default.ensures.items in
     omega (
       arith,
@@ -132,7 +132,7 @@ overflow_add-self c =
       ap length joined,
       ap length read,
       length-append i.bytes.items (way_bytes (j.front - k) t),
-      length-append c.put_way.new.bytes.items more,
+      length-append c.put_delta.new.bytes.items more,
       length-way (j.front - k) t,
       c.extend_from_slice.new.self.ok.0,
       c.extend_from_slice.new.self.small,
@@ -144,10 +144,10 @@ invariant_of-self-2 c = ((grown_at c).within, (grown_at c).packed)
 pub returns : goal.returns
 returns c = (grown_at c).view ∙ (rw (← c.self.view_is, ← c.other.view_is) refl)
 
-pub invariant_of-self-in_err-put_way : goal.invariant_of-self-in_err-put_way
-invariant_of-self-in_err-put_way c =
+pub invariant_of-self-in_err-put_delta : goal.invariant_of-self-in_err-put_delta
+invariant_of-self-in_err-put_delta c =
     with_room c.self.inside _ _ _ c.self.invariant (omega (arith, c.reserve.ensures.capacity))
-    c.in_err-put_way.ensures c.reserve.ensures.items
+    c.in_err-put_delta.ensures c.reserve.ensures.items
 
 pub invariant_of-self-in-Err : goal.invariant_of-self-in-Err
 invariant_of-self-in-Err c =
@@ -155,7 +155,7 @@ invariant_of-self-in-Err c =
     let k = c.shared_len-shared.result in
     let t = take (length c.deref-2.result.now - k) (drop k c.deref-2.result.now) in
     let cut = c.truncate.ensures.items ∙ (ap (take c.len-len.result)
-    (c.in-Err.ensures.items ∙ c.in_ok-put_way.ensures)
+    (c.in-Err.ensures.items ∙ c.in_ok-put_delta.ensures)
     ∙ take_at i.bytes.items _ c.len-len.result
     (omega (arith, c.len-len.ensures, i.bytes.ok.0))) in
     with_room i _ _ _ c.self.invariant (omega (arith, c.reserve.ensures.capacity)) cut

@@ -11,7 +11,7 @@ overflow_sub-self c =
     omega (arith, length-listed i.count b i.last.items, ap length c.self.view_is)
 
 left : (c : goal.After-self-1) → Holds (c.self.inside.count - 1) c.self.inside.front
-    c.truncate.new.self.items c.step_back.new.last.items (vec_capacity c.step_back.new.last)
+    c.truncate.new.self.items c.restore_previous.new.last.items (vec_capacity c.restore_previous.new.last)
     (take (length (listed c.self.inside.count (drop c.self.inside.front c.self.inside.bytes.items)
     c.self.inside.last.items) - 1) (listed c.self.inside.count
     (drop c.self.inside.front c.self.inside.bytes.items) c.self.inside.last.items))
@@ -23,21 +23,21 @@ left c =
     let ways = take_rest c.deref.result.now i.front ∙ ap (drop i.front) c.deref.ensures.value in
     let short = packed_before i.count b i.last.items (take i.front i.bytes.items)
     (vec_capacity i.last) c.self.invariant.1 some in
-    let back : c.step_back.new.last.items ≡ before b i.last.items
-    = rw (← ways) (went_well c.step_back.result _ _
-    (c.step_back.ensures.succeeds (rw ways short))
-    c.step_back.ensures.done) in
-    held_more _ _ _ _ (vec_capacity i.last) _ _ (omega (arith, c.step_back.ensures.room))
+    let back : c.restore_previous.new.last.items ≡ before b i.last.items
+    = rw (← ways) (went_well c.restore_previous.result _ _
+    (c.restore_previous.ensures.succeeds (rw ways short))
+    c.restore_previous.ensures.done) in
+    held_more _ _ _ _ (vec_capacity i.last) _ _ (omega (arith, c.restore_previous.ensures.room))
     (popped i.count i.front i.bytes.items i.last.items (vec_capacity i.last) _ _ some
     c.self.invariant.0
     c.self.invariant.1
     (rw (← ways) (omega (
       arith,
-      c.top_way-top.ensures.start,
-      c.top_way-top.ensures.ordered,
-      c.top_way-top.ensures.within,
+      c.last_delta-top.ensures.start,
+      c.last_delta-top.ensures.ordered,
+      c.last_delta-top.ensures.within,
     )))
-    (rw (c.truncate.ensures.items, c.top_way-top.ensures.start, ways) refl) back)
+    (rw (c.truncate.ensures.items, c.last_delta-top.ensures.start, ways) refl) back)
 
 pub invariant_of-self : goal.invariant_of-self
 invariant_of-self c = (

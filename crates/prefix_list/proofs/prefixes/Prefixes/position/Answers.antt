@@ -27,11 +27,11 @@ returns-then-has_found-clause-some c =
           (omega arith) s (c.if-has_found.ensures.0 refl).0 (c.if-has_found.ensures.0 refl).1,
     )
 
-pub before-seeker-requires-clause-shared : goal.before-seeker-requires-clause-shared
-before-seeker-requires-clause-shared c = c.loop-place.invariant.few
+pub at_previous-seeker-requires-clause-shared : goal.at_previous-seeker-requires-clause-shared
+at_previous-seeker-requires-clause-shared c = c.loop-place.invariant.few
 
-pub before-seeker-requires-clause-fits : goal.before-seeker-requires-clause-fits
-before-seeker-requires-clause-fits c =
+pub at_previous-seeker-requires-clause-fits : goal.at_previous-seeker-requires-clause-fits
+at_previous-seeker-requires-clause-fits c =
     let i = c.self.inside in
     omega (
       arith,
@@ -46,8 +46,8 @@ loop-place-preserved c =
     seek_before c.args.self.now c.args.prefix.now c.loop-place.place
     c.loop-place.seeker.bytes.now _ _ _ _ _ (omega arith) s
     (λ p. let e : false ≡ true = c.if-has_found.ensures.1 p in cc)
-    c.before-seeker.ensures.bytes (c.before-seeker.ensures.steps s.last s.long)
-    (c.before-seeker.ensures.shared s.last s.long s.alike) c.before-seeker.ensures.within
+    c.at_previous-seeker.ensures.bytes (c.at_previous-seeker.ensures.steps s.last s.long)
+    (c.at_previous-seeker.ensures.shared s.last s.long s.alike) c.at_previous-seeker.ensures.within
 
 pub returns-clause-none : goal.returns-clause-none
 returns-clause-none c = λ k d lt is. c.loop-place.invariant.none k d (omega arith) lt is

@@ -9,7 +9,7 @@ pub overflow_add-self : goal.overflow_add-self
 overflow_add-self c = omega (arith, more_counted c.self.inside c.self.invariant)
 
 grown : (c : goal.After-self-1)
-    → Holds (c.self.inside.count + 1) c.self.inside.front c.put_short_way.new.bytes.items
+    → Holds (c.self.inside.count + 1) c.self.inside.front c.put_short_delta.new.bytes.items
     c.put_reserved.new.bytes.items (vec_capacity c.put_reserved.new.bytes)
     (c.args.self.now ++ (take c.args.shared (last_of c.args.self.now) ++ c.args.rest.now) ∷ [])
 grown c =
@@ -17,9 +17,9 @@ grown c =
     let k = c.args.shared in
     one_more c.self.inside c.args.self.now c.args.rest.now _ _ _ k _ c.self.invariant
     c.self.view_is (omega arith)
-    (omega (arith, c.if-has_short_way.ensures.shared, c.self.inside.last.ok.0))
+    (omega (arith, c.if-can_put_short_delta.ensures.shared, c.self.inside.last.ok.0))
     (take_rest c.deref.result.now k ∙ ap (drop k) c.deref.ensures.value)
-    (omega (arith, c.if-has_short_way.ensures.rest)) c.put_short_way.ensures
+    (omega (arith, c.if-can_put_short_delta.ensures.rest)) c.put_short_delta.ensures
     (c.put_reserved.ensures.items ∙ ap (λ x. x ++ c.args.rest.now) c.truncate.ensures.items)
     (omega (arith, c.put_reserved.ensures.room, c.truncate.ensures.capacity))
     (omega (arith, top.ok.0, top.ok.1))
@@ -27,5 +27,5 @@ grown c =
 pub invariant_of-self : goal.invariant_of-self
 invariant_of-self c = ((grown c).within, (grown c).packed)
 
-pub returns-then-has_short_way : goal.returns-then-has_short_way
-returns-then-has_short_way c = (grown c).view
+pub returns-then-can_put_short_delta : goal.returns-then-can_put_short_delta
+returns-then-can_put_short_delta c = (grown c).view

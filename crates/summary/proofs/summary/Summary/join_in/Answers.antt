@@ -8,14 +8,14 @@ pub invariant_of-self-2 : goal.invariant_of-self-2
 invariant_of-self-2 c =
     parts_joined _ _ _ _ _ _ _ _ c.self.invariant c.other.invariant
     c.raise_count.ensures c.raise_count-2.ensures c.raise_count-3.ensures
-    (c.take_lesser.ensures
+    (c.replace_if_lesser.ensures
     ∙ ap (λ f. lesser (schedule_view c.self.inside.first_bad) (schedule_view f)) c.take.ensures.value)
-    c.in_ok-join_views.ensures.joined
+    c.in_ok-merge_views.ensures.joined
 
 pub invariant_of-other : goal.invariant_of-other
-invariant_of-other c = left_kept _ _ c.other.invariant c.join_views.ensures.left
+invariant_of-other c = left_kept _ _ c.other.invariant c.merge_views.ensures.left
 
 pub invariant_of-other-2 : goal.invariant_of-other-2
 invariant_of-other-2 c =
-    none_bad_kept _ _ _ _ (left_kept _ _ c.other.invariant c.join_views.ensures.left)
-    c.reset.ensures c.reset-2.ensures (ap schedule_view c.take.ensures.after)
+    none_bad_kept _ _ _ _ (left_kept _ _ c.other.invariant c.merge_views.ensures.left)
+    c.reset_count.ensures c.reset_count-2.ensures (ap schedule_view c.take.ensures.after)

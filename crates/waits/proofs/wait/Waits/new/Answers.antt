@@ -13,7 +13,7 @@ use Rattle.waits.specs.Waiting.{TellsWait, IsLastStep, circles_in}
 use Rattle.waits.specs.inner.Rows.{lists}
 use Rattle.waits.proofs.CirclesTold.{circles_told}
 use Rattle.waits.proofs.WaitsTold.{wait_told}
-use Rattle.waits.proofs.wait.Waits.new.Goals.{in-Some+in_ok-statements_of+in_ok-push, in_default}
+use Rattle.waits.proofs.wait.Waits.new.Goals.{in-Some+in_ok-unblocking_statements+in_ok-push, in_default}
 use Rattle.waits.proofs.wait.Waits.new.Goals as goal
 
 pub loop-t-preserved : goal.loop-t-preserved
@@ -27,12 +27,13 @@ loop-t-preserved c =
     let thread : Wait → ℕ = λ (w : Wait). w.thread in
     let P : Wait → Type 0 = TellsWait p told fates in
     elim c.match-of.branch [
-      | in-Some+in_ok-statements_of+in_ok-push w ↦
+      | in-Some+in_ok-unblocking_statements+in_ok-push w ↦
           (let pushed = ap (λ v. v.items) w.waits-is ∙ w.in_ok-push.ensures.items in
           let is : blocked_of told t ≡ Some w.in-Some.blocked = sym c.of.ensures ∙ w.in-Some.is in
           let Q : List Step → Type 0 = λ steps. IsLastStep steps t (length steps)
           w.last_step.result in
-          let R : List (Vec Fate Global) → Type 0 = λ all. w.in_ok-statements_of.field-0.items
+          let R : List (Vec Fate Global) → Type 0 = λ all.
+          w.in_ok-unblocking_statements.field-0.items
           ≡ statements_to p (lists all) w.in-Some.blocked (length p.threads) in
           record {
             threads = passed_more test t (map thread old) _ c.loop-t.invariant.threads
@@ -41,7 +42,7 @@ loop-t-preserved c =
                 (wait_told p told fates _ w.in-Some.blocked c.wait_for_graph-edges.result
                 c.transitive_closure-leads.result is refl
                 (subst Q w.steps.ensures w.last_step.ensures)
-                (subst R w.as_slice-in-Some.ensures.value w.in_ok-statements_of.ensures) refl
+                (subst R w.as_slice-in-Some.ensures.value w.in_ok-unblocking_statements.ensures) refl
                 w.circle_of.ensures c.wait_for_graph-edges.ensures
                 c.transitive_closure-leads.ensures));
           })

@@ -9,9 +9,9 @@ returns-clause-search c =
     let program = c.program.ensures in
     let t = c.pop_frame-more.new.self in
     λ b h. popped_search c.args.mode c.args.item.now c.args.self.now t c.args.found.now
-    c.backtrack.new.self c.len.result h
+    c.lower_shared.new.self c.len.result h
     (subst (λ (q : Program). IsPlace q t) program c.pop_frame-more.ensures.place)
     (subst (λ (q : Program). still_open c.args.mode q t
     ≡ still_open c.args.mode q c.args.self.now) program
     c.pop_frame-more.ensures.same)
-    c.pop_frame-more.ensures.steps (omega (arith, c.len.ensures, t.steps.ok.0)) c.backtrack.ensures
+    c.pop_frame-more.ensures.steps (omega (arith, c.len.ensures, t.steps.ok.0)) c.lower_shared.ensures

@@ -8,30 +8,30 @@ use Rattle.walk.specs.inner.Paths.{AreCopies, used_frames}
 use Rattle.walk.proofs.PathSteps.{copies_words, path_words, path_pushed, left_pushed}
 use Rattle.walk.proofs.path.Path.push_frame.Goals as goal
 
-pub returns-in_err-make_words-clause-path : goal.returns-in_err-make_words-clause-path
-returns-in_err-make_words-clause-path c =
+pub returns-in_err-grow_words-clause-path : goal.returns-in_err-grow_words-clause-path
+returns-in_err-grow_words-clause-path c =
     let y = c.args.self.now in
     let room = c.requires.frames.room in
     path_words c.args._program.now y _ c.requires refl refl refl refl refl
     (copies_words c.args._program.now y.steps.items y.machine.shape y.size
     (used_frames y) y.words.items
-    c.make_words.new.words.items c.requires.frames
-    (λ m l. c.make_words.ensures.same m (omega (arith, l, room)))
-    (omega (arith, c.make_words.ensures.room, room))) c.requires.room
+    c.grow_words.new.words.items c.requires.frames
+    (λ m l. c.grow_words.ensures.same m (omega (arith, l, room)))
+    (omega (arith, c.grow_words.ensures.room, room))) c.requires.room
 
-pub returns-in_err-make_frame-clause-path : goal.returns-in_err-make_frame-clause-path
-returns-in_err-make_frame-clause-path c =
+pub returns-in_err-ensure_frame-clause-path : goal.returns-in_err-ensure_frame-clause-path
+returns-in_err-ensure_frame-clause-path c =
     let y = c.args.self.now in
     let room = c.requires.frames.room in
     path_words c.args._program.now y _ c.requires refl refl refl refl refl
     (subst (λ (fs : List Frame). AreCopies c.args._program.now y.steps.items y.machine.shape
-    y.size fs c.make_words.new.words.items)
-    (sym c.make_frame.ensures.same)
+    y.size fs c.grow_words.new.words.items)
+    (sym c.ensure_frame.ensures.same)
     (copies_words c.args._program.now y.steps.items y.machine.shape y.size
     (used_frames y) y.words.items
-    c.make_words.new.words.items c.requires.frames
-    (λ m l. c.make_words.ensures.same m (omega (arith, l, room)))
-    (omega (arith, c.make_words.ensures.room, room)))) c.make_frame.ensures.room
+    c.grow_words.new.words.items c.requires.frames
+    (λ m l. c.grow_words.ensures.same m (omega (arith, l, room)))
+    (omega (arith, c.grow_words.ensures.room, room)))) c.ensure_frame.ensures.room
 
 pub returns-clause-path : goal.returns-clause-path
 returns-clause-path c =
@@ -39,7 +39,7 @@ returns-clause-path c =
     let y = c.args.self.now in
     let w = c.args.self.now.size in
     let q = c.args.self.now.depth in
-    let I = c.make_words.new.words.items in
+    let I = c.grow_words.new.words.items in
     let f : Frame = record {
       node = y.node;
       steps = c.len-frame.result;
@@ -47,10 +47,10 @@ returns-clause-path c =
     } in
     let room = c.requires.frames.room in
     let here : q ≡ length (used_frames y) = sym c.requires.count in
-    let more = take_more_set c.make_frame.new.frames.items q f c.in_ok-make_frame.ensures.there
-    ∙ ap (λ (fs : List Frame). fs ++ f ∷ []) c.make_frame.ensures.same in
+    let more = take_more_set c.ensure_frame.new.frames.items q f c.in_ok-ensure_frame.ensures.there
+    ∙ ap (λ (fs : List Frame). fs ++ f ∷ []) c.ensure_frame.ensures.same in
     let k : q * w + w - q * w ≡ w = omega arith in
-    let inside : q * w + w ≤ length I = c.in_ok-make_words.ensures.there in
+    let inside : q * w + w ≤ length I = c.in_ok-grow_words.ensures.there in
     let same : length c.as_mut_slice.result.now ≡ length I =
     ap (λ xs. length xs) c.as_mut_slice.ensures.value in
     let mid = chunk_length (q * w) w c.as_mut_slice.result.now (omega (arith, inside, same)) in
@@ -69,10 +69,10 @@ returns-clause-path c =
     path_pushed p y _ f q I c.copy_into.new.words c.requires refl refl refl refl more
     (omega (arith, c.len-frame.ensures, c.args.self.now.steps.ok.0)) refl
     c.control-frame.ensures here
-    (refill_rewrites _ _ _ _ _ _ c.make_words.new.words.ok.0 long inside wrote)
-    (refill_length _ _ _ _ _ _ c.make_words.new.words.ok.0 long inside wrote) inside
-    c.make_words.ensures.same c.copy_into.ensures
-    (omega (arith, c.in_ok-make_frame.ensures.there, length-set c.make_frame.new.frames.items q f))
+    (refill_rewrites _ _ _ _ _ _ c.grow_words.new.words.ok.0 long inside wrote)
+    (refill_length _ _ _ _ _ _ c.grow_words.new.words.ok.0 long inside wrote) inside
+    c.grow_words.ensures.same c.copy_into.ensures
+    (omega (arith, c.in_ok-ensure_frame.ensures.there, length-set c.ensure_frame.new.frames.items q f))
 
 pub returns-clause-pushed : goal.returns-clause-pushed
 returns-clause-pushed c =
@@ -82,9 +82,9 @@ returns-clause-pushed c =
       steps = c.len-frame.result;
       control = c.control-frame.result;
     } in
-    let more = take_more_set c.make_frame.new.frames.items y.depth f
-    c.in_ok-make_frame.ensures.there
-    ∙ ap (λ (fs : List Frame). fs ++ f ∷ []) c.make_frame.ensures.same in
+    let more = take_more_set c.ensure_frame.new.frames.items y.depth f
+    c.in_ok-ensure_frame.ensures.there
+    ∙ ap (λ (fs : List Frame). fs ++ f ∷ []) c.ensure_frame.ensures.same in
     record {
       steps = refl;
       node = refl;

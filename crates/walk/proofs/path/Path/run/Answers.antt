@@ -4,8 +4,8 @@ use Rattle.walk.specs.inner.WalkerInvariant.{turns_next}
 use Rattle.walk.proofs.Expansions.{next_is}
 use Rattle.walk.proofs.path.Path.run.Goals as goal
 
-pub run_once-requires : goal.run_once-requires
-run_once-requires c = record {
+pub take_run-requires : goal.take_run-requires
+take_run-requires c = record {
   search = (
     c.requires.search.0,
     next_is c.args.mode c.args.item.now c.loop-going.self c.loop-going.found c.args.thread
@@ -14,10 +14,10 @@ run_once-requires c = record {
   );
 }
 
-pub defer_others-requires-clause-search : goal.defer_others-requires-clause-search
-defer_others-requires-clause-search c = (
+pub defer_others_if_alone-requires-clause-search : goal.defer_others_if_alone-requires-clause-search
+defer_others_if_alone-requires-clause-search c = (
   c.requires.search.0,
-  c.in_ok-run_once.ensures.search c.requires.search.0
+  c.in_ok-take_run.ensures.search c.requires.search.0
       (next_is c.args.mode c.args.item.now c.loop-going.self c.loop-going.found c.args.thread
       c.loop-going.going true c.loop-going-test.true
       (c.loop-going.invariant.search c.requires.search.0 c.requires.search.1)),
@@ -26,7 +26,7 @@ defer_others-requires-clause-search c = (
 pub loop-going-preserved : goal.loop-going-preserved
 loop-going-preserved c =
     let t = c.loop-going.self in
-    let once = c.in_ok-run_once.ensures.falls in
+    let once = c.in_ok-take_run.ensures.falls in
     let next = ap (turns_next c.args.mode c.args.item.now.program t c.args.thread)
     c.loop-going-test.true in
     let before = c.loop-going.invariant.falls in
@@ -34,7 +34,7 @@ loop-going-preserved c =
     record {
       path = search rules;
       search = λ b h. c.in_ok-going.ensures.search b
-          (c.in_ok-run_once.ensures.search b
+          (c.in_ok-take_run.ensures.search b
           (next_is c.args.mode c.args.item.now t c.loop-going.found c.args.thread
           c.loop-going.going true c.loop-going-test.true (c.loop-going.invariant.search b h)));
       free = search rules;
@@ -45,11 +45,11 @@ loop-going-preserved c =
 pub loop-going-smaller : goal.loop-going-smaller
 loop-going-smaller c =
     let p = c.args.item.now.program in
-    let path = c.run_once.ensures.path in
-    let short = schedule_within p c.run_once.new.self.steps.items path.well_formed
+    let path = c.take_run.ensures.path in
+    let short = schedule_within p c.take_run.new.self.steps.items path.well_formed
     path.reaches.runs in
-    let further = c.in_ok-run_once.ensures.further in
-    let same = ap (λ (w : List ℕ). length w) c.defer_others.ensures.steps in
+    let further = c.in_ok-take_run.ensures.further in
+    let same = ap (λ (w : List ℕ). length w) c.defer_others_if_alone.ensures.steps in
     omega (arith, short, further, same)
 
 pub returns-clause-search : goal.returns-clause-search

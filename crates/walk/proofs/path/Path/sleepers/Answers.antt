@@ -9,6 +9,6 @@ pub returns-in-Reduced : goal.returns-in-Reduced
 returns-in-Reduced c =
     let p = c.args.program.now in
     let t = c.args.self.now in
-    subst (λ (m : Mode). c.sleepers.result ≡ mask_after m (here p t) c.args.thread)
+    subst (λ (m : Mode). c.sleep_set_after.result ≡ mask_after m (here p t) c.args.thread)
     (sym c.in-Reduced.is)
-    (c.sleepers.ensures (state_at p t.steps.items) c.requires.path.shows c.requires.enabled)
+    (c.sleep_set_after.ensures (state_at p t.steps.items) c.requires.path.shows c.requires.enabled)

@@ -22,26 +22,26 @@ loop-place-preserved g c =
     let p = g.N.SearchBrand.of.program in
     let of = c.args.self.now.of in
     let i = c.loop-place.invariant in
-    let own = c.write_items.new.items.items in
+    let own = c.clone_items_into.new.items.items in
     let items = all_of p c.args.loan.now in
     let place = c.loop-place.place in
     let quota = c.args.self.now.quota in
     let x = c.index.result.now in
     let same : own ≡ items =
-    subst (λ (q : Program). own ≡ all_of q c.args.loan.now) of.0 c.in_ok-write_items.ensures.items in
+    subst (λ (q : Program). own ≡ all_of q c.args.loan.now) of.0 c.in_ok-clone_items_into.ensures.items in
     let end = c.loop-place-test.true in
     let len = c.len-place-end.ensures in
-    let whole = c.write_items.new.items.ok.0 in
+    let whole = c.clone_items_into.new.items.ok.0 in
     let within : place < length own = omega (arith, end, len, whole) in
     let at : slice_get own place ≡ Some x =
     got-or own place x within ∙ ap (λ y. Some y) (sym c.index.ensures) in
     record {
-      walker = c.in_ok-walk_on.ensures.program ∙ i.walker;
+      walker = c.in_ok-walk_into.ensures.program ∙ i.walker;
       walked = one_more_walked p g.N.SearchBrand.mode items quota place x c.loop-place.worker.found
-          c.walk_on.new.found (subst (λ (is : List ItemView). place < length is) same within)
+          c.walk_into.new.found (subst (λ (is : List ItemView). place < length is) same within)
           (subst (λ (is : List ItemView). slice_get is place ≡ Some x) same at)
           (ap (λ (y : ItemView). y.program) c.index.ensures
-          ∙ (c.write_items.ensures.program place x within ∙ of.0)) (search rules)
-          (subst (λ (m : Mode). HasAdded m x quota c.loop-place.worker.found c.walk_on.new.found)
-          of.1 c.in_ok-walk_on.ensures.added) i.walked;
+          ∙ (c.clone_items_into.ensures.program place x within ∙ of.0)) (search rules)
+          (subst (λ (m : Mode). HasAdded m x quota c.loop-place.worker.found c.walk_into.new.found)
+          of.1 c.in_ok-walk_into.ensures.added) i.walked;
     }

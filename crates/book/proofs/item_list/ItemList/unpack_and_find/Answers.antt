@@ -1,0 +1,62 @@
+use Rattle.std.proofs.Common.{subst, IfOk, IfNone, IfSome, List, sym, ◌∙◌, refl}
+use Rattle.std.specs.Arc.{arc_value}
+use Rattle.items.specs.Items.{ItemView}
+use Rattle.book.specs.ItemLists.{all_of}
+use Rattle.book.specs.Books.{AreOpenAt, StandInOrder}
+use Rattle.book.proofs.PackedItems.{still_own}
+use Rattle.book.proofs.TakenOver.{none_there, unpacked_only}
+use Rattle.book.proofs.item_list.ItemList.unpack_and_find.Goals as goal
+
+pub returns-in-Some-clause-there : goal.returns-in-Some-clause-there
+returns-in-Some-clause-there c =
+    let p = arc_value c.args.program.now in
+    subst (λ o. IfSome o (λ v.
+    AreOpenAt (all_of p c.args.self.now) c.args.items.now c.args.places.now v.items))
+    c.in-Some.is (c.in_ok-found.ensures.there p)
+
+pub find_from-requires-2-clause-program : goal.find_from-requires-2-clause-program
+find_from-requires-2-clause-program c =
+    let p = arc_value c.args.program.now in (
+      p,
+      still_own p c.args.self.now c.unpack_from.new.self c.unpack_from.ensures.same
+          c.requires.unpacked,
+      c.requires.program,
+    )
+
+pub returns-clause-there : goal.returns-clause-there
+returns-clause-there c =
+    subst (λ (all : List ItemView). IfOk c.find_from-3.result (λ o. IfSome o (λ v.
+    AreOpenAt all c.args.items.now c.args.places.now v.items)))
+    (c.unpack_from-2.ensures.same ∙ c.unpack_from.ensures.same)
+    (c.find_from-3.ensures.there (arc_value c.args.program.now))
+
+pub find_from-requires-3-clause-program : goal.find_from-requires-3-clause-program
+find_from-requires-3-clause-program c =
+    let p = arc_value c.args.program.now in (
+      p,
+      still_own p c.args.self.now c.unpack_from-2.new.self
+          (c.unpack_from-2.ensures.same ∙ c.unpack_from.ensures.same) c.requires.unpacked,
+      c.requires.program,
+    )
+
+pub returns-in-Some-2-clause-there : goal.returns-in-Some-2-clause-there
+returns-in-Some-2-clause-there c =
+    let p = arc_value c.args.program.now in
+    subst (λ o. IfSome o (λ v.
+    AreOpenAt (all_of p c.args.self.now) c.args.items.now c.args.places.now v.items))
+    c.in-Some-2.is
+    (subst (λ (all : List ItemView). IfSome c.in_ok-found-2.field-0 (λ v.
+    AreOpenAt all c.args.items.now c.args.places.now v.items)) c.unpack_from.ensures.same
+    (c.in_ok-found-2.ensures.there p))
+
+-- nothing is packed any more
+pub returns-clause-none : goal.returns-clause-none
+returns-clause-none c =
+    let p = arc_value c.args.program.now in
+    let list = c.unpack_from-2.new.self in
+    let none = none_there list.packed 0 c.in_ok-unpack_from-2.ensures.unpacked refl in
+    subst (λ (all : List ItemView). IfOk c.find_from-3.result (λ o. IfNone o
+    (StandInOrder all c.args.items.now c.args.places.now → ⊥)))
+    (sym (unpacked_only p list none)
+    ∙ (c.unpack_from-2.ensures.same ∙ c.unpack_from.ensures.same))
+    (c.find_from-3.ensures.none refl)

@@ -1,0 +1,13 @@
+use Rattle.std.proofs.Common.{arith}
+use Rattle.schedules.specs.Schedules.{begins_with}
+use Rattle.items.proofs.Covers.{at_most_one}
+use Rattle.items.proofs.WalkedItems.{one_place}
+use Rattle.book.specs.Books.{items_left}
+use Rattle.book_laws.proofs.no_schedule_is_under_two_items.Goals as goal
+
+pub returns : goal.returns
+returns c = λ b v i j d h l k e.
+    one_place (items_left b) v i j d
+    (let a = h.split.apart v in
+    let c = at_most_one (begins_with b.of.prefix v) in
+    omega (arith, a, c)) l k e

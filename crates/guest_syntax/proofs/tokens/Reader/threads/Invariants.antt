@@ -1,0 +1,17 @@
+use Rattle.std.proofs.Common.{◌≡◌, length, map}
+use Rattle.guest_syntax.specs.Tree.{thread_view}
+use Rattle.guest_syntax.specs.reader.Reads.{rest_of}
+use Rattle.guest_syntax.specs.reader.Items.{all_from}
+use Rattle.guest_syntax.specs.reader.Trees.{thread_turn}
+use Rattle.guest_syntax.proofs.ItemLoops.{Goes}
+use Rattle.guest_syntax.proofs.tokens.Reader.threads.Given as goal
+
+abbrev pub invariant-items : goal.invariant-items
+invariant-items l = record {
+  goes : Goes thread_turn (map thread_view l.all.items) (rest_of l.self)
+      (all_from thread_turn (rest_of l.fn.self));
+  same : l.self.cursor.text.now ≡ l.fn.self.cursor.text.now;
+}
+
+abbrev pub decreases-items : goal.decreases-items
+decreases-items l = length (rest_of l.self)

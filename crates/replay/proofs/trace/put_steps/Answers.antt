@@ -1,7 +1,0 @@
-use Rattle.replay.proofs.TraceTexts.{steps_more}
-use Rattle.replay.proofs.trace.put_steps.Goals as goal
-
-pub loop-k-preserved : goal.loop-k-preserved
-loop-k-preserved c =
-    steps_more c.args.program.now c.args.lines.now c.loop-k.k c.args.text.now.items
-    c.loop-k.text.items _ _ c.loop-k-test.true c.loop-k.invariant c.in_ok-put_step.ensures

@@ -1,0 +1,10 @@
+use Rattle.std.proofs.Common.{◌≤◌}
+use Rattle.schedules.specs.Schedules.{preemptions}
+use Rattle.items.specs.declared.mode.Mode.TheVariants.{Bounded}
+use Rattle.items.specs.Items.{ItemView, IsItem}
+use Rattle.runner.specs.Levels.{AreBelow}
+use Rattle.runner.proofs.course.untried_levels.Given as goal
+
+abbrev pub invariant-loop-bound : goal.invariant-loop-bound
+invariant-loop-bound l = (i : ItemView) → IsItem i → l.end ≤ preemptions i.program i.prefix →
+    AreBelow i (Bounded l.bound) l.levels.items

@@ -1,0 +1,25 @@
+use Rattle.std.proofs.Common.{◌≡◌, ◌<◌, ◌≤◌, ◌+◌, ◌||◌, not, take, length}
+use Rattle.semantics.specs.Ends.{is_empty}
+use Rattle.semantics.specs.Mask.{members_from}
+use Rattle.items.specs.Children.{cost_of}
+use Rattle.walk.specs.declared.found.Found.{Found}
+use Rattle.walk.specs.inner.WalkerInvariant.{item_of, IsAlong}
+use Rattle.walk.proofs.path.Path.take_run.Given as goal
+
+abbrev pub invariant-loop-place : goal.invariant-loop-place
+invariant-loop-place l = record {
+  same : l.self ≡ record l.initial.self { steps = l.self.steps };
+  steps : l.self.steps.items ≡ l.initial.self.steps.items;
+  within : l.place ≤ length l.initial.self.steps.items;
+  along : (before : Found)
+      → IsAlong before l.fn.mode l.item l.initial.self l.initial.found (l.from + 1)
+      → IsAlong before l.fn.mode l.item l.initial.self l.found l.place;
+  falls : cost_of (item_of l.item.program (take l.place l.initial.self.steps.items)
+      l.initial.self.node)
+      ≤ cost_of (item_of l.item.program (take (l.from + 1) l.initial.self.steps.items)
+      l.initial.self.node);
+  lists : l.found.lists ≡ l.initial.found.lists;
+  noted : l.from + 1 < l.place
+      → (l.found.part.beyond || not (is_empty (members_from l.others 0))) ≡ l.found.part.beyond;
+  tried : l.found.part.tried ≡ l.initial.found.part.tried;
+}
