@@ -66,10 +66,7 @@ impl<'a> Compiled<'a> {
 
     /// Adds to `all` a diagnostic with this message on the piece at a place, of this severity, and
     /// with this number and name, as `W9 MayLack`; unless `all` has one with these and this place.
-    ///
-    /// # Errors
-    ///
-    /// `AllocError` where memory runs out.
+    /// Fails where memory runs out.
     pub fn add_diagnostic(
         &self,
         all: &mut Vec<Diagnostic>,

@@ -67,11 +67,7 @@ impl Compiled<'_> {
     /// Explores schedules of the program, up to as many as the depth says, and adds to `all` the
     /// diagnostics of what they show of signals, `repeat`s and assertions. Those of assertions are
     /// added only where all schedules that sleep sets leave were explored; otherwise a remark says
-    /// that the limit was reached, whether remarks are wanted or not.
-    ///
-    /// # Errors
-    ///
-    /// `AllocError` where memory runs out.
+    /// that the limit was reached, whether remarks are wanted or not. Fails where memory runs out.
     pub fn explore_into(&self, depth: Depth, all: &mut Vec<Diagnostic>) -> Result<(), AllocError> {
         let alloc = *all.allocator();
         let spins = self.spins(alloc)?;

@@ -113,10 +113,7 @@ impl Compiled<'_> {
     }
 
     /// Adds to `all` the diagnostics of the program's warnings, each kind once for each place.
-    ///
-    /// # Errors
-    ///
-    /// `AllocError` where memory runs out.
+    /// Fails where memory runs out.
     pub fn add_warnings(&self, all: &mut Vec<Diagnostic>) -> Result<(), AllocError> {
         let alloc = *all.allocator();
         let warnings = all_warnings(alloc, self.program)?;

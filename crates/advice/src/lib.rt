@@ -78,11 +78,7 @@ fn has_warning(all: &[Diagnostic]) -> bool
 
 /// Why a text is refused, or else what is odd about its program, in the order of the text. With a
 /// depth, schedules of the program are explored, up to as many as the depth says, and it is also
-/// told what they show.
-///
-/// # Errors
-///
-/// `AllocError` where memory runs out.
+/// told what they show. Fails where memory runs out.
 pub fn check(alloc: Global, text: &[u8], depth: Option<Depth>) -> Result<Checked, AllocError>
     ensures { IfOk result (Tells text.now) }
 {
@@ -181,11 +177,8 @@ fn all_diagnostics(
     Ok(all)
 }
 
-/// The lines to print on standard error of what a check of a text found.
-///
-/// # Errors
-///
-/// `AllocError` where memory runs out.
+/// The lines to print on standard error of what a check of a text found. Fails where memory runs
+/// out.
 pub fn advice_text(alloc: Global, text: &[u8], checked: &Checked) -> Result<Vec<u8>, AllocError>
     ensures { IfOk result (λ v. v.items ≡ checked_lines text.now checked.now) }
 {

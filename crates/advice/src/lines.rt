@@ -27,11 +27,8 @@ fn put_origin(out: &mut Vec<u8>, marks: &Marks, span: Option<Span>) -> Result<()
 }
 
 /// Adds to `out` the lines to print of a diagnostic on a text, and above them a row with the file
-/// and line that its source line comes from, where the `marks` of a preprocessor tell them.
-///
-/// # Errors
-///
-/// `AllocError` where memory runs out.
+/// and line that its source line comes from, where the `marks` of a preprocessor tell them. Fails
+/// where memory runs out.
 pub fn put_diagnostic(
     out: &mut Vec<u8>,
     text: &[u8],
@@ -46,11 +43,8 @@ pub fn put_diagnostic(
 }
 
 /// Adds to `out` the lines to print of several diagnostics on a text, in order, and above those of
-/// each the file and line it comes from, where the `marks` of a preprocessor tell them.
-///
-/// # Errors
-///
-/// `AllocError` where memory runs out.
+/// each the file and line it comes from, where the `marks` of a preprocessor tell them. Fails where
+/// memory runs out.
 pub fn put_diagnostics(
     out: &mut Vec<u8>,
     text: &[u8],

@@ -90,11 +90,8 @@ impl Compiled<'_> {
     }
 
     /// The loops of the program that a `leave` may end: each copy in the flat code of a `repeat`
-    /// that has a `leave`. One inside another `repeat` has several copies.
-    ///
-    /// # Errors
-    ///
-    /// `AllocError` where memory runs out.
+    /// that has a `leave`. One inside another `repeat` has several copies. Fails where memory runs
+    /// out.
     pub fn spins(&self, alloc: Global) -> Result<Vec<Spin>, AllocError> {
         let mut spins = Vec::new(alloc);
         for thread in 0..self.program.threads() {

@@ -55,11 +55,8 @@ pub fn title_and_words(kind: WarningKind) -> (&'static str, &'static str) {
 }
 
 impl<'a> Compiled<'a> {
-    /// The message of a warning of the program, with its notes on what to write instead.
-    ///
-    /// # Errors
-    ///
-    /// `AllocError` where memory runs out.
+    /// The message of a warning of the program, with its notes on what to write instead. Fails
+    /// where memory runs out.
     pub fn warning_message(&self, alloc: Global, warning: Warning) -> Result<Message, AllocError> {
         let (_, said) = title_and_words(warning.kind);
         match warning.kind {

@@ -31,11 +31,8 @@ pub struct Printed {
 }
 
 impl Printed {
-    /// What is printed of a report, its text and a line feed; and the status of its verdict.
-    ///
-    /// # Errors
-    ///
-    /// `AllocError` where memory runs out.
+    /// What is printed of a report, its text and a line feed; and the status of its verdict. Fails
+    /// where memory runs out.
     pub fn of_report(alloc: Global, report: &Report) -> Result<Printed, AllocError>
         ensures output { IfOk result (λ a. a.output.items ≡ report_text report.now ++ codes "\n") }
         ensures status { IfOk result (λ a. a.status ≡ verdict_status report.now.verdict) }

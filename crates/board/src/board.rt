@@ -57,10 +57,7 @@ impl Model for Board {
 
 impl Board {
     /// A board of the numbers below `n`, none drawn yet, and all its seats: `seats`, at least one.
-    ///
-    /// # Errors
-    ///
-    /// `AllocError` where memory runs out.
+    /// Fails where memory runs out.
     pub fn new(alloc: Global, n: u32, seats: u32) -> Result<(Board, Vec<Seat>), AllocError>
         requires { 0 < seats }
         ensures limit { IfOk result (λ made. made.0.id.limit ≡ n) }

@@ -75,11 +75,7 @@ impl Model for Book {
 
 impl Book {
     /// The book of all schedules of a program at the start of a search: the root is its one open
-    /// item.
-    ///
-    /// # Errors
-    ///
-    /// `AllocError` where memory runs out.
+    /// item. Fails where memory runs out.
     pub fn open(alloc: Global, program: Arc<Program>, mode: Mode) -> Result<Book, AllocError>
         ensures { IfOk result (λ b. b ≡ opening (arc_value program) mode false) }
     {
@@ -87,11 +83,8 @@ impl Book {
     }
 
     /// The book of all schedules of a program at the start of a quick search: the root is its one
-    /// open item. The book may drop items that come after a bad schedule.
-    ///
-    /// # Errors
-    ///
-    /// `AllocError` where memory runs out.
+    /// open item. The book may drop items that come after a bad schedule. Fails where memory runs
+    /// out.
     pub fn open_quick(alloc: Global, program: Arc<Program>, mode: Mode) -> Result<Book, AllocError>
         ensures { IfOk result (λ b. b ≡ opening (arc_value program) mode true) }
     {
@@ -99,11 +92,8 @@ impl Book {
     }
 
     /// The book of an item's schedules at the start of a search: the item is the one open item. Its
-    /// prefix must have no more preemptions than the mode's bound, if there is one.
-    ///
-    /// # Errors
-    ///
-    /// `AllocError` where memory runs out.
+    /// prefix must have no more preemptions than the mode's bound, if there is one. Fails where
+    /// memory runs out.
     pub fn open_under(alloc: Global, item: Item, mode: Mode) -> Result<Book, AllocError>
         requires { IsWithin mode item }
         ensures { IfOk result (λ b. b ≡ opening_of item mode false) }
@@ -165,11 +155,7 @@ impl Book {
         self.open_items.len()
     }
 
-    /// A copy of the open item at a place, counted from 0.
-    ///
-    /// # Errors
-    ///
-    /// `AllocError` where memory runs out.
+    /// A copy of the open item at a place, counted from 0. Fails where memory runs out.
     pub fn open_item(&self, alloc: Global, place: usize) -> Result<Item, AllocError>
         requires { place < length self.now.open_items }
         ensures { IfOk result (λ i. slice_get self.now.open_items place ≡ Some i) }
@@ -192,11 +178,7 @@ impl Book {
         self.deferred.len()
     }
 
-    /// A copy of the deferred item at a place, counted from 0.
-    ///
-    /// # Errors
-    ///
-    /// `AllocError` where memory runs out.
+    /// A copy of the deferred item at a place, counted from 0. Fails where memory runs out.
     pub fn deferred_item(&self, alloc: Global, place: usize) -> Result<Item, AllocError>
         requires { place < length self.now.deferred }
         ensures { IfOk result (λ i. slice_get self.now.deferred place ≡ Some i) }
@@ -218,11 +200,8 @@ impl Book {
         self.dropped
     }
 
-    /// The book's next round: copies of the last open items, at most `ROUND`, in their order.
-    ///
-    /// # Errors
-    ///
-    /// `AllocError` where memory runs out.
+    /// The book's next round: copies of the last open items, at most `ROUND`, in their order. Fails
+    /// where memory runs out.
     pub fn round(&self, alloc: Global) -> Result<Vec<Item>, AllocError>
         ensures { IfOk result (λ v. v.items
             ≡ drop (length self.now.open_items - ROUND) self.now.open_items) }
@@ -236,11 +215,8 @@ impl Book {
     /// Replaces `items`, which have to be of the same program, by the book's next round: copies of
     /// the last open items, at most `ROUND`, in their order. The memory of `items` serves copies of
     /// packed items. `settle_all` then begins to look where these items stand; no contract says so.
-    ///
-    /// # Errors
-    ///
-    /// `AllocError` where memory runs out. The book is as before then, and `items` has some items
-    /// of the program, not the round.
+    /// Fails where memory runs out. The book is as before then, and `items` has some items of the
+    /// program, not the round.
     pub fn next_round(&mut self, alloc: Global, items: &mut Vec<Item>) -> Result<(), AllocError>
         requires { AreOf self.old.of.program items.old.items }
         ensures items { OnOk result (items.new.items
@@ -379,12 +355,8 @@ impl Book {
     /// settled. They aren't where the items aren't open in that order, or where the book lists
     /// deferred prefixes and `found` doesn't. All items have to be of the book's program. Packed
     /// ones are unpacked when the round's first walks are settled, which no contract says. The
-    /// memory of `found` serves later walks.
-    ///
-    /// # Errors
-    ///
-    /// `AllocError` where memory runs out. The book and `found` are as before then, and also where
-    /// the walks aren't settled.
+    /// memory of `found` serves later walks. Fails where memory runs out. The book and `found` are
+    /// as before then, and also where the walks aren't settled.
     pub fn settle_all(
         &mut self,
         alloc: Global,
@@ -419,12 +391,8 @@ impl Book {
 
     /// Walks the last open items, at most `ROUND`, in their order, each for at most `quota`
     /// schedules, and settles the walks at once. No item is copied. What the walks find is gathered
-    /// in `found`, whose memory serves later rounds.
-    ///
-    /// # Errors
-    ///
-    /// `AllocError` where memory runs out. The book is as before then, and the items have to be
-    /// walked again.
+    /// in `found`, whose memory serves later rounds. Fails where memory runs out. The book is as
+    /// before then, and the items have to be walked again.
     pub fn walk_round(
         &mut self,
         alloc: Global,

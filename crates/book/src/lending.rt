@@ -55,11 +55,8 @@ impl Model for LendingBook {
 
 impl LendingBook {
     /// A book that lends its items to `workers` workers, which are numbered from 0. None has an
-    /// item yet. The book must have dropped no item.
-    ///
-    /// # Errors
-    ///
-    /// `AllocError` where memory runs out; the book is given up then.
+    /// item yet. The book must have dropped no item. Fails where memory runs out; the book is given
+    /// up then.
     pub fn new(alloc: Global, book: Book, workers: usize) -> Result<LendingBook, AllocError>
         requires all { book.dropped ≡ false }
         ensures lending { IfOk result (λ b. b ≡ lending book workers) }
@@ -95,10 +92,7 @@ impl LendingBook {
 
     /// The book, which lends no more: what was lent to workers follows its other open items. All
     /// items are unpacked if it is quick and has a bad schedule, so that it can drop open ones.
-    ///
-    /// # Errors
-    ///
-    /// `AllocError` where memory runs out; the book is given up then.
+    /// Fails where memory runs out; the book is given up then.
     pub fn into_book(self, alloc: Global) -> Result<Book, AllocError>
         ensures { IfOk result (λ b. Reorders (as_book self) b) }
     {
@@ -173,11 +167,8 @@ impl LendingBook {
 
     /// Replaces the items of `loan` by copies of the last free items, at most `most`, and lends
     /// these to a worker that has none. Answers whether it did: false where no worker has this
-    /// number, or the worker still has items; true also where no item is free.
-    ///
-    /// # Errors
-    ///
-    /// `AllocError` where memory runs out; the worker may have the items then, and no copies.
+    /// number, or the worker still has items; true also where no item is free. Fails where memory
+    /// runs out; the worker may have the items then, and no copies.
     pub fn lend(
         &mut self,
         alloc: Global,
@@ -206,12 +197,8 @@ impl LendingBook {
     /// Settles at once what walks found of all items of a worker's loan, in the loan's order; items
     /// that the walks left are free. Answers whether they were settled: false where the loan's
     /// items aren't those lent to a worker of this number, or the book lists deferred prefixes and
-    /// `found` doesn't. The memory of `found` serves later walks.
-    ///
-    /// # Errors
-    ///
-    /// `AllocError` where memory runs out. The book and `found` are as before then, and also where
-    /// the walks aren't settled.
+    /// `found` doesn't. The memory of `found` serves later walks. Fails where memory runs out. The
+    /// book and `found` are as before then, and also where the walks aren't settled.
     pub fn settle(
         &mut self,
         alloc: Global,

@@ -40,11 +40,8 @@ impl Loan {
     }
 
     /// Replaces `items`, which have to be of the same program, by copies of the loan's items, in
-    /// the loan's order. The memory of `items` is used again.
-    ///
-    /// # Errors
-    ///
-    /// `AllocError` where memory runs out; `items` has some items of the program then.
+    /// the loan's order. The memory of `items` is used again. Fails where memory runs out; `items`
+    /// has some items of the program then.
     pub fn clone_items_into(
         &self,
         alloc: Global,

@@ -24,12 +24,9 @@ pub struct Causes {
 }
 
 impl Causes {
-    /// The events of the run of `program` that an explanation tells, which of them are in the cause
-    /// of how it ended, and in which one a thread first stopped in an error.
-    ///
-    /// # Errors
-    ///
-    /// `AllocError` where memory runs out.
+    /// The events of the run of `program` that `explanation` is of, which events and which steps
+    /// are in the cause of how it ended, and in which event a thread first stopped in an error.
+    /// Fails where memory runs out.
     pub fn of(
         alloc: Global,
         program: &Program,

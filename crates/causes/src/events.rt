@@ -23,11 +23,7 @@ use std::alloc::{AllocError, Global};
 
 /// The events of the run that an explanation tells, in their order: those of the local runs before
 /// the first step, thread by thread; then each step, followed by the events of its local run; then,
-/// where no thread stopped, one event for each thread that is blocked.
-///
-/// # Errors
-///
-/// `AllocError` where memory runs out.
+/// where no thread stopped, one event for each thread that is blocked. Fails where memory runs out.
 pub fn events_of(
     alloc: Global,
     program: &Program,

@@ -81,11 +81,7 @@ fn push_children(
 
 /// Appends the children of `item` to `items`: the items one step longer that a search in this mode
 /// enters, in the order of the threads; or `item` itself, where its prefix is a complete schedule.
-/// Answers whether it is one.
-///
-/// # Errors
-///
-/// `AllocError` where memory runs out.
+/// Answers whether it is one. Fails where memory runs out.
 pub fn push_children_or_self(
     items: &mut Vec<Item>,
     alloc: Global,
@@ -116,11 +112,7 @@ pub struct Layer {
 
 /// The layer one step longer than that of these items: each item is replaced by the children that a
 /// search in this mode enters, or stays if it is a complete schedule's. It is the last layer if all
-/// stay.
-///
-/// # Errors
-///
-/// `AllocError` where memory runs out.
+/// stay. Fails where memory runs out.
 pub fn next_layer(alloc: Global, mode: Mode, items: &[Item]) -> Result<Layer, AllocError>
     ensures items { IfOk result (λ l. l.items.items ≡ flat_map (further mode) items.now) }
     ensures last { IfOk result (λ l. l.is_last ≡ true → All IsComplete items.now) }

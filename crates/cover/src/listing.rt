@@ -25,11 +25,8 @@ use std::sync::Arc;
 /// sets (`Reduced`) only those are there that the search enters, each with the threads that sleep
 /// after it.
 ///
-/// The memory used is that of the list, of the list one step shorter, and of one state.
-///
-/// # Errors
-///
-/// `AllocError` where memory runs out.
+/// The memory used is that of the list, of the list one step shorter, and of one state. Fails where
+/// memory runs out.
 pub fn prefixes(
     alloc: Global,
     program: Arc<Program>,
@@ -55,11 +52,8 @@ pub fn prefixes(
     Ok(items)
 }
 
-/// The text of the prefixes of these items: a line for each, with its printed spelling.
-///
-/// # Errors
-///
-/// `AllocError` where memory runs out.
+/// The text of the prefixes of these items: a line for each, with its printed spelling. Fails where
+/// memory runs out.
 pub fn prefix_lines(alloc: Global, items: &[Item]) -> Result<Vec<u8>, AllocError>
     ensures { IfOk result (λ text. text.items ≡ flat_map prefix_line items.now) }
 {

@@ -77,11 +77,8 @@ fn write_lines<E: Write>(err: &mut E, file: &GuestFile, several: bool, printed: 
     printed.status
 }
 
-/// Checks the text of a file of the name `file`, and answers what is printed, and the status.
-///
-/// # Errors
-///
-/// `AllocError` where memory runs out.
+/// Checks the text of a file of the name `file`, and answers what is printed, and the status. Fails
+/// where memory runs out.
 pub fn check_text(
     alloc: Global,
     text: &[u8],

@@ -9,11 +9,7 @@ use text_lines::Marks;
 /// A line for each refusal, warning and remark on a text that was read from this file: a JSON
 /// object if `is_json`, else `FILE:LINE:COLUMN: warning W5 NeverLoaded: MESSAGE`, where a refusal
 /// is an `error`, and what has no place is at line 1, column 1. Where a preprocessor's mark comes
-/// before the place, file and line are those that the mark says.
-///
-/// # Errors
-///
-/// `AllocError` where memory runs out.
+/// before the place, file and line are those that the mark says. Fails where memory runs out.
 pub fn diagnostics_text(
     alloc: Global,
     text: &[u8],

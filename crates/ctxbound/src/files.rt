@@ -56,11 +56,7 @@ where
 /// The files that a name stands for: the file of that name, or all guest programs in the folder of
 /// that name and in the folders in it, sorted by name. Links to folders in it aren't followed.
 /// Where the folder has no guest program, or one of the folders can't be read, the folder is
-/// answered as one file, by its name and with the error.
-///
-/// # Errors
-///
-/// `AllocError` where memory runs out.
+/// answered as one file, by its name and with the error. Fails where memory runs out.
 pub fn guest_files<H>(rt: &H, name: &str) -> Result<Vec<GuestFile>, AllocError>
 where
     H: Files + Alloc<A = Global> + Clone + Drop,

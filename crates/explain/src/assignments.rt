@@ -37,11 +37,7 @@ pub struct Passage {
 
 /// The assignments to a thread's locals in a step that did `act`, and in the local run after it, in
 /// order. `code` is the thread's; `passage` says where the thread was before the step and after the
-/// local run, and has the values of its locals before the step.
-///
-/// # Errors
-///
-/// `AllocError` where memory runs out.
+/// local run, and has the values of its locals before the step. Fails where memory runs out.
 pub fn assignments_of(
     alloc: Global,
     code: &[Instruction],
@@ -116,11 +112,8 @@ fn apply_assignment(locals: &mut [i64; LOCALS], assignment: Option<Assignment>)
 }
 
 /// Carries out a local run from instruction `from` on in `locals`, which are the thread's locals
-/// before it, and adds the assignments of the run to `assignments`, in order.
-///
-/// # Errors
-///
-/// `AllocError` where memory runs out.
+/// before it, and adds the assignments of the run to `assignments`, in order. Fails where memory
+/// runs out.
 pub fn run_and_push_assignments(
     assignments: &mut Vec<Assignment>,
     code: &[Instruction],

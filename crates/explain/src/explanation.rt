@@ -53,11 +53,7 @@ pub struct Explanation {
 
 impl Explanation {
     /// The explanation of a schedule, which is carried out from the start, to its end or up to a
-    /// step of a thread that isn't enabled.
-    ///
-    /// # Errors
-    ///
-    /// `AllocError` where memory runs out.
+    /// step of a thread that isn't enabled. Fails where memory runs out.
     pub fn new(alloc: Global, program: &Program, schedule: &[u8]) -> Result<Explanation, AllocError>
         ensures { IfOk result (Explains program.now schedule.now) }
     {

@@ -41,11 +41,7 @@ pub struct Step {
 
 impl Step {
     /// Takes a step of a thread that is enabled, in `execution`, and answers what the step did, and
-    /// what it and the local run after it changed.
-    ///
-    /// # Errors
-    ///
-    /// `AllocError` where memory runs out.
+    /// what it and the local run after it changed. Fails where memory runs out.
     pub fn take(
         alloc: Global,
         execution: &mut Execution,

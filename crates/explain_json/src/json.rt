@@ -7,11 +7,7 @@ use std::alloc::{AllocError, Global};
 
 /// The explanation as compact JSON of one object, its keys in the order of their bytes, with a line
 /// feed. `docs/FORMATS.md` says what each key has. `search` is the report of the search that found
-/// the schedule, if one did.
-///
-/// # Errors
-///
-/// `AllocError` where memory runs out.
+/// the schedule, if one did. Fails where memory runs out.
 pub fn explanation_json<'a>(
     alloc: Global,
     explanation: &'a Explanation,
@@ -24,11 +20,7 @@ pub fn explanation_json<'a>(
 }
 
 /// What is told as JSON where a search found no bad schedule: an object with the file, `null` as
-/// the schedule, and the report of the search; and a line feed.
-///
-/// # Errors
-///
-/// `AllocError` where memory runs out.
+/// the schedule, and the report of the search; and a line feed. Fails where memory runs out.
 pub fn no_schedule_json(alloc: Global, file: &str, search: Value) -> Result<Vec<u8>, AllocError> {
     let told = json!(in alloc; {"file": file, "schedule": null, "search": search})?;
     let mut data = told.to_vec(alloc)?;
@@ -38,11 +30,7 @@ pub fn no_schedule_json(alloc: Global, file: &str, search: Value) -> Result<Vec<
 
 /// The JSON of an explanation with what only a page has: the text of the guest, where its lines
 /// come from, and `why`, which says in words how the schedule ends and why. `search` is the report
-/// of the search that found the schedule, if one did.
-///
-/// # Errors
-///
-/// `AllocError` where memory runs out.
+/// of the search that found the schedule, if one did. Fails where memory runs out.
 pub fn page_json<'a>(
     alloc: Global,
     explanation: &'a Explanation,

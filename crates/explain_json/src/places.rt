@@ -104,7 +104,7 @@ impl<S: Serializer> Writer<'_, S> {
     }
 
     /// Writes the `line` in which a statement begins, null at the end of a thread's code. The other
-    /// keys of its place are [`Writer::put_extent`]'s: in a step, `held` comes between these and it.
+    /// keys of its place are [`Writer::put_extent`]'s: in a step, `held` is between these and it.
     pub fn put_line_number(&mut self, statement: Statement<'_>) -> Written<S> {
         let begin = self.facts.statement_start(statement);
         self.put("line", begin.map(|begin| begin.line))

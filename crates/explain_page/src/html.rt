@@ -14,10 +14,7 @@ const SAFE_DIGITS: usize = 15;
 /// explanation with the text of the guest, which its script draws. `search` is the report of the
 /// search that found the schedule, if one did: the page shows how its schedules end. `why` says in
 /// words how the schedule ends and why, and its last line is the command that replays the schedule.
-///
-/// # Errors
-///
-/// `AllocError` where memory runs out.
+/// Fails where memory runs out.
 pub fn explanation_html<'a>(
     alloc: Global,
     explanation: &'a Explanation,
@@ -34,11 +31,7 @@ pub fn explanation_html<'a>(
 }
 
 /// The page for a search that found no bad schedule: the name of the file, and `sentence`, which
-/// says that the search found none.
-///
-/// # Errors
-///
-/// `AllocError` where memory runs out.
+/// says that the search found none. Fails where memory runs out.
 pub fn no_schedule_html(alloc: Global, file: &str, sentence: &str) -> Result<Vec<u8>, AllocError> {
     let mut page = Vec::from_slice(alloc, HEAD.as_bytes())?;
     page.extend_from_slice(SENTENCE_BEGIN.as_bytes())?;

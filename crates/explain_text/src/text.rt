@@ -40,11 +40,7 @@ pub struct TextWriter<'a> {
 
 /// The explanation as text: how the schedule ended, a table of its steps with columns for the
 /// threads, and why threads can't go on. No line is wider than the layout says but the last one,
-/// the command that replays the schedule.
-///
-/// # Errors
-///
-/// `AllocError` where memory runs out.
+/// the command that replays the schedule. Fails where memory runs out.
 pub fn explanation_text(
     alloc: Global,
     explanation: &Explanation,
@@ -55,11 +51,7 @@ pub fn explanation_text(
 }
 
 /// How the schedule ends and why, in words, without the steps; the last line is the command that
-/// replays it.
-///
-/// # Errors
-///
-/// `AllocError` where memory runs out.
+/// replays it. Fails where memory runs out.
 pub fn why_text(
     alloc: Global,
     explanation: &Explanation,

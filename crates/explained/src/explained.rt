@@ -208,11 +208,8 @@ pub fn has_fewest_preemptions(report: &Report) -> bool {
 }
 
 /// What the user is told where a search of the program in this file found no bad schedule: how far
-/// the search went, and, where that was only up to a bound, that this is no proof.
-///
-/// # Errors
-///
-/// `AllocError` where memory runs out.
+/// the search went, and, where that was only up to a bound, that this is no proof. Fails where
+/// memory runs out.
 pub fn no_schedule_text(alloc: Global, file: &str, report: &Report) -> Result<String, AllocError> {
     let tried = report.summary.tried();
     match (&report.verdict, report.bound) {

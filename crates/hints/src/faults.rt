@@ -12,11 +12,8 @@ use guest_syntax::tree::Tree;
 use std::alloc::{AllocError, Global};
 
 /// The message on a tree that is no program, for this error: what is wrong at the error's site, and
-/// what to write instead. It is empty where memory ran out, which is no fault of the tree.
-///
-/// # Errors
-///
-/// `AllocError` where memory runs out.
+/// what to write instead. It is empty where memory ran out, which is no fault of the tree. Fails
+/// where memory runs out.
 pub fn fault_message(
     alloc: Global,
     site: FaultSite<'_>,

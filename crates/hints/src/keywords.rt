@@ -11,11 +11,8 @@ fn keyword_in(forms: &[Form], word: &str) -> Option<&'static str> {
 }
 
 /// The keyword nearest to a word, among those of the forms, the first of equally near ones; `None`
-/// where none is near, as [`near_distance`](crate::names::near_distance) says.
-///
-/// # Errors
-///
-/// `AllocError` where memory runs out.
+/// where none is near, as [`near_distance`](crate::names::near_distance) says. Fails where memory
+/// runs out.
 pub fn nearest_keyword(
     alloc: Global,
     forms: &[Form],

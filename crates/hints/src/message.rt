@@ -14,11 +14,7 @@ pub struct Message {
 }
 
 impl Message {
-    /// A message of this text, with no note.
-    ///
-    /// # Errors
-    ///
-    /// `AllocError` where memory runs out.
+    /// A message of this text, with no note. Fails where memory runs out.
     pub fn new(alloc: Global, text: impl Display + Drop) -> Result<Message, AllocError> {
         Ok(Message {
             text: text.to_string(alloc)?,
@@ -31,20 +27,13 @@ impl Message {
         *self.notes.allocator()
     }
 
-    /// Adds a note that has no place in the text of the guest.
-    ///
-    /// # Errors
-    ///
-    /// `AllocError` where memory runs out.
+    /// Adds a note that has no place in the text of the guest. Fails where memory runs out.
     pub fn with_note(self, note: impl Display + Drop) -> Result<Message, AllocError> {
         self.with_note_at(None, note)
     }
 
-    /// Adds a note on the bytes of a span, or, where that is `None`, one without a place.
-    ///
-    /// # Errors
-    ///
-    /// `AllocError` where memory runs out.
+    /// Adds a note on the bytes of a span, or, where that is `None`, one without a place. Fails
+    /// where memory runs out.
     pub fn with_note_at(
         mut self,
         span: Option<Span>,

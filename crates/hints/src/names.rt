@@ -54,11 +54,7 @@ pub fn first_declaration<'a>(tree: &'a Tree, name: &[u8]) -> Option<DeclaredName
 
 /// The Levenshtein distance of two names, how many edits of single bytes lead from one to the
 /// other, where they are near: where it is at most a third of the length of `name`, rounded up, and
-/// less than the length of `other`. `None` where they aren't near.
-///
-/// # Errors
-///
-/// `AllocError` where memory runs out.
+/// less than the length of `other`. `None` where they aren't near. Fails where memory runs out.
 pub fn near_distance(alloc: Global, name: &[u8], other: &[u8]) -> Result<Option<usize>, AllocError>
     ensures { IfOk result (λ n. n ≡ near name.now other.now) }
 {
@@ -86,11 +82,7 @@ impl<'a, T: Copy> Nearest<'a, T> {
     }
 
     /// Takes in a thing with this name: it is the best so far where its name is near the word, and
-    /// nearer than the names of all things added before.
-    ///
-    /// # Errors
-    ///
-    /// `AllocError` where memory runs out.
+    /// nearer than the names of all things added before. Fails where memory runs out.
     pub fn add(&mut self, alloc: Global, name: &[u8], thing: T) -> Result<(), AllocError> {
         if let Some(distance) = near_distance(alloc, self.word, name)? {
             if self.best.is_none_or(|(least, _)| distance < least) {
@@ -107,11 +99,7 @@ impl<'a, T: Copy> Nearest<'a, T> {
 }
 
 /// The name nearest to a word among those of the declared objects of a kind, the first of equally
-/// near ones; `None` where none is near, as [`near_distance`] says.
-///
-/// # Errors
-///
-/// `AllocError` where memory runs out.
+/// near ones; `None` where none is near, as [`near_distance`] says. Fails where memory runs out.
 pub fn nearest_object<'a>(
     alloc: Global,
     tree: &'a Tree,

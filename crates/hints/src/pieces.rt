@@ -12,11 +12,8 @@ use std::str::from_utf8;
 pub const START: Pos = Pos { line: 1, col: 1 };
 
 /// The pieces of a text in order: its tokens, and the bytes that begin no token. Of a longer text,
-/// the first [`TEXT_BYTES`](guest_syntax::TEXT_BYTES) bytes alone are cut into pieces.
-///
-/// # Errors
-///
-/// `AllocError` where memory runs out.
+/// the first [`TEXT_BYTES`](guest_syntax::TEXT_BYTES) bytes alone are cut into pieces. Fails where
+/// memory runs out.
 pub fn pieces<'a>(alloc: Global, text: &'a [u8]) -> Result<Vec<Piece<'a>>, AllocError> {
     Pieces::new(text).collect(alloc)
 }

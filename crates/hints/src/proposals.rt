@@ -200,11 +200,7 @@ impl Message {
     /// Adds notes with what `RULES` propose in place of the statement or declaration at the site:
     /// for its words and then for these as an assignment, up to a proposal without a comment. Where
     /// they propose nothing, but its first word stands for a keyword of the language, adds a note
-    /// on how to write what that keyword begins.
-    ///
-    /// # Errors
-    ///
-    /// `AllocError` where memory runs out.
+    /// on how to write what that keyword begins. Fails where memory runs out.
     pub fn with_proposals(mut self, site: FaultSite<'_>) -> Result<Message, AllocError> {
         let alloc = self.allocator();
         let (mut is_first, mut is_open) = (true, true);

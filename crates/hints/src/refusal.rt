@@ -49,11 +49,7 @@ fn check_place(tree: &Tree, error: CheckError) -> Option<Pos>
 }
 
 /// The diagnostic on a text that the parser refuses with this error: a refusal with the error as
-/// headline, and with a message on what to write instead.
-///
-/// # Errors
-///
-/// `AllocError` where memory runs out.
+/// headline, and with a message on what to write instead. Fails where memory runs out.
 pub fn syntax_diagnostic(
     alloc: Global,
     text: &[u8],
@@ -71,10 +67,7 @@ pub fn syntax_diagnostic(
 
 /// The diagnostic on a text whose tree is no program, for this error: a refusal with the error as
 /// headline, and with a message on what to write instead. It has no span where the error has none.
-///
-/// # Errors
-///
-/// `AllocError` where memory runs out.
+/// Fails where memory runs out.
 pub fn check_diagnostic(
     alloc: Global,
     text: &[u8],

@@ -11,11 +11,8 @@ use guest_syntax::limits::{DEPTH, NUMBER};
 use std::alloc::{AllocError, Global};
 
 /// The message on a text that the parser refuses with this error: what is wrong at its site, and
-/// what to write instead. It is empty where memory ran out, which is no fault of the text.
-///
-/// # Errors
-///
-/// `AllocError` where memory runs out.
+/// what to write instead. It is empty where memory ran out, which is no fault of the text. Fails
+/// where memory runs out.
 pub fn syntax_message(
     alloc: Global,
     site: FaultSite<'_>,

@@ -45,11 +45,8 @@ impl<'a> FaultSite<'a> {
 
     /// The words of the statement at the site in this language: keywords and operators of other
     /// languages are translated, and a first word that is no keyword is replaced by the nearest
-    /// one, if one is near and no `=`, `+`, `-` or `*` is next, as in an assignment.
-    ///
-    /// # Errors
-    ///
-    /// `AllocError` where memory runs out.
+    /// one, if one is near and no `=`, `+`, `-` or `*` is next, as in an assignment. Fails where
+    /// memory runs out.
     pub fn statement_words(self, alloc: Global) -> Result<Vec<&'a str>, AllocError> {
         let mut words = Vec::new(alloc);
         let end = self.end();
@@ -76,11 +73,8 @@ impl<'a> FaultSite<'a> {
     }
 
     /// The words of the declaration at the site in this language, or of a thread up to its `{`. The
-    /// first is the keyword that seems meant, or an empty word where none is near.
-    ///
-    /// # Errors
-    ///
-    /// `AllocError` where memory runs out.
+    /// first is the keyword that seems meant, or an empty word where none is near. Fails where
+    /// memory runs out.
     pub fn declaration_words(self, alloc: Global) -> Result<Vec<&'a str>, AllocError> {
         let (mut words, mut kind) = (Vec::new(alloc), None);
         for at in self.start..self.end() {
@@ -108,11 +102,7 @@ impl<'a> FaultSite<'a> {
 
 /// The words of a statement, brought to the form `x = 1` or `x = x + 1` where it gives `x` a value:
 /// by `load`, `store` or `set`, by an operator as `+=`, or by `++` or `--`. The words of any other
-/// statement as they are.
-///
-/// # Errors
-///
-/// `AllocError` where memory runs out.
+/// statement as they are. Fails where memory runs out.
 pub fn assignment_words<'a>(alloc: Global, words: &[&'a str]) -> Result<Vec<&'a str>, AllocError> {
     let (given, is_assignment) = match words {
         ["load" | "store" | "set", given @ ..] => (given, true),

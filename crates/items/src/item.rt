@@ -71,11 +71,7 @@ impl Item {
     }
 
     /// The item of the schedules that begin with a prefix that is known to run, and isn't replayed.
-    /// No thread sleeps after it.
-    ///
-    /// # Errors
-    ///
-    /// `AllocError` where memory runs out.
+    /// No thread sleeps after it. Fails where memory runs out.
     pub fn at_known(alloc: Global, program: Arc<Program>, prefix: &[u8]) -> Result<Item, AllocError>
         requires { IsItem (item_at (arc_value program) prefix.now) }
         ensures { IfOk result (λ i. i ≡ item_at (arc_value program) prefix.now) }
@@ -98,11 +94,7 @@ impl Item {
             && self.program.is_same(&other.program)
     }
 
-    /// An equal item, which shares the program.
-    ///
-    /// # Errors
-    ///
-    /// `AllocError` where memory runs out.
+    /// An equal item, which shares the program. Fails where memory runs out.
     pub fn try_clone(&self, alloc: Global) -> Result<Item, AllocError>
         ensures same { IfOk result (λ i. i ≡ self.now) }
         ensures runs { IfOk result IsItem }
@@ -118,11 +110,7 @@ impl Item {
 
     /// Makes this the item of the schedules of the same program that begin with another prefix,
     /// which is known to run. No thread sleeps after it. It is written over the old prefix, once
-    /// there is room for it.
-    ///
-    /// # Errors
-    ///
-    /// `AllocError` where memory runs out; the item is then as before.
+    /// there is room for it. Fails where memory runs out; the item is then as before.
     pub fn set_prefix(&mut self, prefix: &[u8]) -> Result<(), AllocError>
         requires { IsItem (item_at self.old.program prefix.now) }
         ensures item { OnOk result (self.new ≡ item_at self.old.program prefix.now) }
@@ -137,11 +125,7 @@ impl Item {
     }
 
     /// An item of the same program: its prefix, which is known to run, is `steps` and then a step
-    /// of `thread`, after which the threads of `mask` sleep.
-    ///
-    /// # Errors
-    ///
-    /// `AllocError` where memory runs out.
+    /// of `thread`, after which the threads of `mask` sleep. Fails where memory runs out.
     pub fn with_prefix(
         &self,
         alloc: Global,

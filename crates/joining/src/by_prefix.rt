@@ -26,11 +26,7 @@ pub struct PartsByPrefix<'a> {
 }
 
 impl<'a> PartsByPrefix<'a> {
-    /// Maps the prefixes of these parts to the parts.
-    ///
-    /// # Errors
-    ///
-    /// `AllocError` where memory runs out.
+    /// Maps the prefixes of these parts to the parts. Fails where memory runs out.
     pub fn new(alloc: Global, parts: &'a [Part]) -> Result<PartsByPrefix<'a>, AllocError>
         ensures { IfOk result (λ x. x.parts.now ≡ parts.now) }
     {

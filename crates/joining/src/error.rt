@@ -53,11 +53,7 @@ impl JoinError {
         }
     }
 
-    /// The message for the user: one line, without a line feed.
-    ///
-    /// # Errors
-    ///
-    /// `AllocError` where memory runs out.
+    /// The message for the user: one line, without a line feed. Fails where memory runs out.
     pub fn text(&self, alloc: Global) -> Result<Vec<u8>, AllocError>
         ensures { IfOk result (λ text. text.items ≡ join_error_text self.now) }
     {

@@ -210,13 +210,9 @@ impl Exploration {
     }
 }
 
-/// Explores, depth first, the schedules that sleep sets leave and those that they cut short, at most
+/// Explores, depth first, the schedules that sleep sets leave and those that they cut short, up to
 /// `limit` of them. Answers what they show, and whether they are all. `spins` are the loops that a
-/// `leave` may end.
-///
-/// # Errors
-///
-/// `AllocError` where memory runs out.
+/// `leave` may end. Fails where memory runs out.
 pub fn explore(
     alloc: Global,
     program: &Program,

@@ -179,11 +179,7 @@ fn mark_paths(marks: &mut [Mark], code: &[Instruction], watch: Watch, start: usi
 
 /// For each instruction of a code, and last for its end, whether some path from the instruction of
 /// number `start` leads there with the watched property, and whether some path leads there without
-/// it. `holds` says whether the property holds before `start`.
-///
-/// # Errors
-///
-/// `AllocError` where memory runs out.
+/// it. `holds` says whether the property holds before `start`. Fails where memory runs out.
 pub fn path_marks(
     alloc: Global,
     code: &[Instruction],

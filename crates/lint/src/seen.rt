@@ -90,11 +90,7 @@ fn unseen_instructions(alloc: Global, count: usize) -> Result<Vec<InstructionSee
 
 impl Seen {
     /// What was seen of a program before any schedule is explored: nothing. `spins` is how many of
-    /// its loops a `leave` may end.
-    ///
-    /// # Errors
-    ///
-    /// `AllocError` where memory runs out.
+    /// its loops a `leave` may end. Fails where memory runs out.
     pub fn new(alloc: Global, program: &Program, spins: usize) -> Result<Seen, AllocError> {
         let mut instructions = Vec::new(alloc);
         for thread in 0..program.threads() {
@@ -142,11 +138,7 @@ impl Seen {
 
     /// Notes that `step` is to carry out a `signal`, the instruction of number `at`, while several
     /// threads wait for its condition: keeps the threads of the steps up to this one, if none are
-    /// kept for this instruction yet.
-    ///
-    /// # Errors
-    ///
-    /// `AllocError` where memory runs out.
+    /// kept for this instruction yet. Fails where memory runs out.
     pub fn note_signal_to_many(&mut self, step: SeenStep<'_>, at: usize) -> Result<(), AllocError> {
         let alloc = self.alloc;
         if let Some(instruction) = self.instruction_mut(step.thread, at) {
@@ -179,11 +171,8 @@ impl Seen {
     }
 
     /// Notes what is seen in the local run of the thread in `step` from the instruction of number
-    /// `start` on, with these locals: its assertions, and the loops whose turns run out.
-    ///
-    /// # Errors
-    ///
-    /// `AllocError` where memory runs out.
+    /// `start` on, with these locals: its assertions, and the loops whose turns run out. Fails
+    /// where memory runs out.
     pub fn note_local_run(
         &mut self,
         step: SeenStep<'_>,
@@ -206,10 +195,7 @@ impl Seen {
 
     /// Notes what is seen after a thread's step, which carried out the instruction of number `at`:
     /// in going to the next one, and in the local run from there, before which it has `locals`.
-    ///
-    /// # Errors
-    ///
-    /// `AllocError` where memory runs out.
+    /// Fails where memory runs out.
     pub fn note_after_step(
         &mut self,
         step: SeenStep<'_>,

@@ -244,10 +244,7 @@ impl WarningKind {
     }
 
     /// Whether the local, object or instruction of this number is one that this kind warns of.
-    ///
-    /// # Errors
-    ///
-    /// `AllocError` where memory runs out.
+    /// Fails where memory runs out.
     pub fn applies_to(
         self,
         alloc: Global,

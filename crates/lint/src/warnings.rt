@@ -62,11 +62,8 @@ fn warnings_of(
 }
 
 /// All warnings of a program, one kind after the other: of each kind exactly one for each local,
-/// object or instruction that the kind applies to, in the order of their numbers.
-///
-/// # Errors
-///
-/// `AllocError` where memory runs out.
+/// object or instruction that the kind applies to, in the order of their numbers. Fails where
+/// memory runs out.
 pub fn all_warnings(alloc: Global, program: &Program) -> Result<Vec<Warning>, AllocError>
     ensures { IfOk result (λ v. Listed program.now (kinds_of program.now) v.items) }
 {

@@ -107,11 +107,8 @@ impl Machine {
     }
 
     /// A machine that shows the initial state of a program: each thread has taken its first local
-    /// run, and each condition's queue is empty. No other call on a machine takes memory.
-    ///
-    /// # Errors
-    ///
-    /// `AllocError` where memory runs out.
+    /// run, and each condition's queue is empty. No other call on a machine takes memory. Fails
+    /// where memory runs out.
     pub fn start(alloc: Global, program: &Program) -> Result<Machine, AllocError>
         ensures { IfOk result (λ m. Shows program.now m (start program.now)) }
     {

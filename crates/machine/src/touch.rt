@@ -160,11 +160,8 @@ fn thread_touches(
 }
 
 impl Touches {
-    /// What a step touches at each instruction of each thread of a program.
-    ///
-    /// # Errors
-    ///
-    /// `AllocError` where memory runs out.
+    /// What a step touches at each instruction of each thread of a program. Fails where memory runs
+    /// out.
     pub(crate) fn of(alloc: Global, program: &Program) -> Result<Touches, AllocError>
         ensures { IfOk result (AreTouches program.now) }
     {

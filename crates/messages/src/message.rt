@@ -195,11 +195,8 @@ fn put_margin(out: &mut Vec<u8>, line: u32) -> Result<(), AllocError>
     out.extend_from_slice(b" | ")
 }
 
-/// Adds bytes of a source line to `out`, each as the character that [`shown`] has for it.
-///
-/// # Errors
-///
-/// `AllocError` where memory runs out.
+/// Adds bytes of a source line to `out`, each as the character that [`shown`] has for it. Fails
+/// where memory runs out.
 pub fn put_shown(out: &mut Vec<u8>, bytes: &[u8]) -> Result<(), AllocError>
     ensures { Puts result out.old out.new (map shown bytes.now) }
 {

@@ -16,10 +16,7 @@ use std::sync::Arc;
 
 /// Replaces `items`, which have to be of `program`, by those of a list's last `count` prefixes, in
 /// the list's order. All prefixes of the list have to run. The memory of `items` is used again.
-///
-/// # Errors
-///
-/// `AllocError` where memory runs out.
+/// Fails where memory runs out.
 pub fn unpack_last_into(
     alloc: Global,
     program: &Arc<Program>,
@@ -78,10 +75,7 @@ fn set_or_push_item(
 }
 
 /// The item of the last of a list's prefixes. The list must have one, and its prefixes have to run.
-///
-/// # Errors
-///
-/// `AllocError` where memory runs out.
+/// Fails where memory runs out.
 pub fn last_item(
     alloc: Global,
     program: &Arc<Program>,

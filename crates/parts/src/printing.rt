@@ -11,11 +11,8 @@ use serde_json::{Map, Value, put};
 use std::alloc::{AllocError, Global};
 
 /// The line of a part: compact JSON of one object, its keys in the order of their bytes, with no
-/// line feed. Schedules are in their printed spelling, and the digest is in lower case.
-///
-/// # Errors
-///
-/// `AllocError` where memory runs out.
+/// line feed. Schedules are in their printed spelling, and the digest is in lower case. Fails where
+/// memory runs out.
 pub fn part_line(alloc: Global, part: &Part) -> Result<Vec<u8>, AllocError>
     ensures text { IfOk result (λ line. line.items ≡ part_text (part_view part.now)) }
     ensures reads { IfOk result (λ line. IsLineOf line.items (part_view part.now)) }

@@ -134,11 +134,7 @@ impl Prefixes {
         self.count = 0;
     }
 
-    /// Appends a prefix.
-    ///
-    /// # Errors
-    ///
-    /// `AllocError` where memory runs out; the list is then as before.
+    /// Appends a prefix. Fails where memory runs out; the list is then as before.
     pub fn push(&mut self, prefix: &[u8]) -> Result<(), AllocError>
         ensures { self.new ≡ (if is_ok result then self.old ++ prefix.now ∷ [] else self.old) }
     {
@@ -151,11 +147,8 @@ impl Prefixes {
 
     /// Appends a prefix: the first `shared` steps of the last one, or all where it has fewer, and
     /// then the `rest`. It doesn't look whether the two have more steps in common. Tests the usual
-    /// case first: the delta is short, and there is room.
-    ///
-    /// # Errors
-    ///
-    /// `AllocError` where memory runs out; the list is then as before.
+    /// case first: the delta is short, and there is room. Fails where memory runs out; the list is
+    /// then as before.
     #[inline(always)]
     pub fn push_after(&mut self, shared: usize, rest: &[u8]) -> Result<(), AllocError>
         ensures { self.new ≡ (if is_ok result
@@ -206,11 +199,8 @@ impl Prefixes {
         Ok(())
     }
 
-    /// Appends copies of the prefixes of another list.
-    ///
-    /// # Errors
-    ///
-    /// `AllocError` where memory runs out; the list is then as before.
+    /// Appends copies of the prefixes of another list. Fails where memory runs out; the list is
+    /// then as before.
     pub fn append(&mut self, alloc: Global, other: &Prefixes) -> Result<(), AllocError>
         ensures { self.new ≡ (if is_ok result then self.old ++ other.now else self.old) }
     {
@@ -238,11 +228,8 @@ impl Prefixes {
     }
 
     /// Moves the last prefixes, at most `count` of them, into another list, in place of those it
-    /// has. The memory that both lists have is used again.
-    ///
-    /// # Errors
-    ///
-    /// `AllocError` where memory runs out; this list is then as before, and the other one is empty.
+    /// has. The memory that both lists have is used again. Fails where memory runs out; this list
+    /// is then as before, and the other one is empty.
     pub fn split_last(&mut self, count: usize, other: &mut Prefixes) -> Result<(), AllocError>
         ensures kept { self.new ≡ (if is_ok result
             then take (length self.old - count) self.old else self.old) }
@@ -292,11 +279,8 @@ impl Prefixes {
         Ok(())
     }
 
-    /// Makes the list equal to another one, in the memory that this one has.
-    ///
-    /// # Errors
-    ///
-    /// `AllocError` where memory runs out; the list then has no prefix.
+    /// Makes the list equal to another one, in the memory that this one has. Fails where memory
+    /// runs out; the list then has no prefix.
     pub fn copy_from(&mut self, other: &Prefixes) -> Result<(), AllocError>
         ensures { self.new ≡ (if is_ok result then other.now else []) }
     {
@@ -323,11 +307,7 @@ impl Prefixes {
             && is_equal(self.bytes.as_slice(), other.bytes.as_slice())
     }
 
-    /// A list of the same prefixes, in memory of its own.
-    ///
-    /// # Errors
-    ///
-    /// `AllocError` where memory runs out.
+    /// A list of the same prefixes, in memory of its own. Fails where memory runs out.
     pub fn try_clone(&self, alloc: Global) -> Result<Prefixes, AllocError>
         ensures { IfOk result (λ p. p ≡ self.now) }
     {
@@ -343,10 +323,7 @@ impl Prefixes {
 
     /// A reader of the prefixes in reverse order, from the last to the first. It takes memory for a
     /// copy of the last prefix, which it turns into each earlier one; the list stays as it is.
-    ///
-    /// # Errors
-    ///
-    /// `AllocError` where memory runs out.
+    /// Fails where memory runs out.
     pub fn rev(&self, alloc: Global) -> Result<Rev<'_>, AllocError>
         ensures { IfOk result (λ r. r ≡ self.now) }
     {

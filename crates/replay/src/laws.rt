@@ -50,7 +50,7 @@ pub fn one_error_fits_a_text()
 {}
 
 /// `PLACES`, the most places (one for each step) of a schedule that `schedule_from` reads, is
-/// 32,768: two for each instruction of each thread.
+/// 32,768: two for each instruction of each thread of the largest program.
 pub fn limit_of_places_is_32768()
     ensures { PLACES ≡ 32768 }
 {}

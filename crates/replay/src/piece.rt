@@ -91,11 +91,7 @@ fn is_count(text: &[u8]) -> bool
 }
 
 /// Appends the spelling of a piece to a text: its thread's number and, unless it has a single step,
-/// an `x` and the number of steps.
-///
-/// # Errors
-///
-/// `AllocError` where memory runs out.
+/// an `x` and the number of steps. Fails where memory runs out.
 pub fn put_piece(text: &mut Vec<u8>, alloc: Global, piece: Piece) -> Result<(), AllocError>
     ensures { OnOk result (text.new.items ≡ text.old.items ++ piece_text piece) }
 {
@@ -107,11 +103,7 @@ pub fn put_piece(text: &mut Vec<u8>, alloc: Global, piece: Piece) -> Result<(), 
     Ok(())
 }
 
-/// Appends the steps of a piece to a schedule, as thread numbers.
-///
-/// # Errors
-///
-/// `AllocError` where memory runs out.
+/// Appends the steps of a piece to a schedule, as thread numbers. Fails where memory runs out.
 pub fn push_steps(schedule: &mut Vec<u8>, piece: Piece) -> Result<(), AllocError>
     ensures { OnOk result
         (schedule.new.items ≡ schedule.old.items ++ replicate piece.count piece.thread) }

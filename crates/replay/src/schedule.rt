@@ -19,11 +19,8 @@ pub const PLACES: usize = STEPS;
 const EMPTY: &[u8] = b"-";
 
 /// The printed spelling of a schedule: its longest runs of steps of one thread, joined by commas, a
-/// run of one step as the thread's number alone; `-` where the schedule is empty.
-///
-/// # Errors
-///
-/// `AllocError` where memory runs out.
+/// run of one step as the thread's number alone; `-` where the schedule is empty. Fails where
+/// memory runs out.
 pub fn schedule_text(alloc: Global, schedule: &[u8]) -> Result<Vec<u8>, AllocError>
     ensures value { IfOk result (λ text. text.items ≡ printed schedule.now) }
     ensures spells { IfOk result (λ text. Spells text.items schedule.now) }

@@ -17,11 +17,7 @@ use std::alloc::{AllocError, Global};
 /// First `start NAME stop assert` for each thread that stopped at the start. Then, for each step,
 /// its place, the thread's name and what it did, with ` preempt` where the switch was preempting
 /// and ` stop WHY` where the thread stopped. At last `preemptions N`, `kind K` and `vars` with the
-/// value of each variable.
-///
-/// # Errors
-///
-/// `AllocError` where memory runs out.
+/// value of each variable. Fails where memory runs out.
 pub fn trace_text(alloc: Global, program: &Program, run: &Run) -> Result<Vec<u8>, AllocError>
     requires { IsValidRun program.now run.now }
     ensures run { IfOk result (λ text. text.items ≡ trace program.now run.now) }

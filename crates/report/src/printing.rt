@@ -19,11 +19,7 @@ use summary::Summary;
 /// `failed`, `stuck` and `tried`, and `verdict`; a quick one has `"quick":true`. A clean one has
 /// `all`; a bad one `kind`, `preemptions` and `schedule`; an incomplete one `cause`, `finished` (a
 /// bound or null) and `schedule` (the summary's first bad one, or null). Schedules are in their
-/// printed spelling.
-///
-/// # Errors
-///
-/// `AllocError` where memory runs out.
+/// printed spelling. Fails where memory runs out.
 #[tactic(auto, using(crate::proofs::ReportTexts::report_whole))]
 pub fn report_text(alloc: Global, report: &Report) -> Result<Vec<u8>, AllocError>
     ensures { IfOk result (λ text. text.items ≡ report_text report.now) }
@@ -31,11 +27,7 @@ pub fn report_text(alloc: Global, report: &Report) -> Result<Vec<u8>, AllocError
     report_value(alloc, report)?.to_vec(alloc)
 }
 
-/// The JSON object of a report; [`report_text`] prints it.
-///
-/// # Errors
-///
-/// `AllocError` where memory runs out.
+/// The JSON object of a report; [`report_text`] prints it. Fails where memory runs out.
 pub fn report_value(alloc: Global, report: &Report) -> Result<Value, AllocError>
     ensures { IfOk result (λ v. view v ≡ report_data report.now) }
 {
@@ -177,11 +169,7 @@ fn kind_value(alloc: Global, kind: Kind) -> Result<Value, AllocError>
     }
 }
 
-/// Why a search was cut short, as JSON: the word `limit` or `stopped`.
-///
-/// # Errors
-///
-/// `AllocError` where memory runs out.
+/// Why a search was cut short, as JSON: the word `limit` or `stopped`. Fails where memory runs out.
 pub fn cause_value(alloc: Global, cause: Cause) -> Result<Value, AllocError>
     ensures { IfOk result (λ v. view v ≡ cause_data cause) }
 {
@@ -191,11 +179,7 @@ pub fn cause_value(alloc: Global, cause: Cause) -> Result<Value, AllocError>
     }
 }
 
-/// A schedule as JSON: a string of its printed spelling.
-///
-/// # Errors
-///
-/// `AllocError` where memory runs out.
+/// A schedule as JSON: a string of its printed spelling. Fails where memory runs out.
 #[tactic(auto, using(crate::proofs::PrintedSchedules::spelling_utf8))]
 pub fn schedule_value(alloc: Global, schedule: &[u8]) -> Result<Value, AllocError>
     ensures { IfOk result (λ v. view v ≡ schedule_data schedule.now) }
@@ -207,11 +191,7 @@ pub fn schedule_value(alloc: Global, schedule: &[u8]) -> Result<Value, AllocErro
 }
 
 /// The first bad schedule of a summary as JSON: a string of its printed spelling, or null where
-/// there is none.
-///
-/// # Errors
-///
-/// `AllocError` where memory runs out.
+/// there is none. Fails where memory runs out.
 pub fn first_bad_value(alloc: Global, summary: &Summary) -> Result<Value, AllocError>
     ensures { IfOk result (λ v. view v ≡ first_bad_data summary.now.first_bad) }
 {
@@ -221,11 +201,8 @@ pub fn first_bad_value(alloc: Global, summary: &Summary) -> Result<Value, AllocE
     }
 }
 
-/// The end views of a summary as JSON: an array of objects, each with `kind` and `vars`.
-///
-/// # Errors
-///
-/// `AllocError` where memory runs out.
+/// The end views of a summary as JSON: an array of objects, each with `kind` and `vars`. Fails
+/// where memory runs out.
 pub fn ends_value(alloc: Global, summary: &Summary) -> Result<Value, AllocError>
     ensures { IfOk result (λ v. view v ≡ ends_data summary.now.ends) }
 {

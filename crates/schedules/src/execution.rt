@@ -27,11 +27,8 @@ impl Model for Execution {
 }
 
 impl Execution {
-    /// The execution of the empty schedule, before the first step of the program.
-    ///
-    /// # Errors
-    ///
-    /// `AllocError` where memory runs out.
+    /// The execution of the empty schedule, before the first step of the program. Fails where
+    /// memory runs out.
     pub fn start(alloc: Global, program: &Program) -> Result<Execution, AllocError>
         ensures reached { IfOk result (Reaches program.now []) }
         ensures of { IfOk result (IsExecutionOf program.now) }
@@ -43,11 +40,7 @@ impl Execution {
         })
     }
 
-    /// A copy of the execution.
-    ///
-    /// # Errors
-    ///
-    /// `AllocError` where memory runs out.
+    /// A copy of the execution. Fails where memory runs out.
     pub fn try_clone(&self, alloc: Global) -> Result<Execution, AllocError>
         ensures { IfOk result (λ e. e ≡ self.now) }
     {

@@ -9,11 +9,8 @@ use guest_code::limits::{COUNT, LOCALS, THREADS};
 use guest_code::program::Program;
 use std::alloc::{AllocError, Global};
 
-/// The values of a program's variables before the first step, as they are declared.
-///
-/// # Errors
-///
-/// `AllocError` where memory runs out.
+/// The values of a program's variables before the first step, as they are declared. Fails where
+/// memory runs out.
 pub fn initial_values(alloc: Global, program: &Program) -> Result<Vec<i64>, AllocError>
     ensures { IfOk result (λ v. v.items ≡ (start program.now).vars) }
 {
@@ -24,11 +21,8 @@ pub fn initial_values(alloc: Global, program: &Program) -> Result<Vec<i64>, Allo
     Ok(values)
 }
 
-/// The counts of a program's semaphores before the first step, as they are declared.
-///
-/// # Errors
-///
-/// `AllocError` where memory runs out.
+/// The counts of a program's semaphores before the first step, as they are declared. Fails where
+/// memory runs out.
 pub fn initial_counts(alloc: Global, program: &Program) -> Result<Vec<u16>, AllocError>
     ensures counts { IfOk result (λ v. v.items ≡ (start program.now).counts) }
     ensures full { IfOk result (λ v. All (λ n. n ≤ COUNT) v.items) }
@@ -40,11 +34,8 @@ pub fn initial_counts(alloc: Global, program: &Program) -> Result<Vec<u16>, Allo
     Ok(counts)
 }
 
-/// A program's threads before the first step: each began with locals of 0 and took its local run.
-///
-/// # Errors
-///
-/// `AllocError` where memory runs out.
+/// A program's threads before the first step: each began with locals of 0, and ran on to its first
+/// visible instruction, its end or a failed assertion. Fails where memory runs out.
 pub fn initial_threads(alloc: Global, program: &Program) -> Result<Vec<Thread>, AllocError>
     ensures few { length program.now.threads ≤ THREADS }
     ensures threads { IfOk result (λ v. v.items ≡ (start program.now).threads) }

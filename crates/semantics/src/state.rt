@@ -151,11 +151,7 @@ impl Model for State {
 impl State {
     /// The initial state of a program: values and counts as declared, mutexes free, queues empty,
     /// and each thread after its first local run, up to a visible statement, its end or a failed
-    /// assertion.
-    ///
-    /// # Errors
-    ///
-    /// `AllocError` where memory runs out.
+    /// assertion. Fails where memory runs out.
     pub fn start(alloc: Global, program: &Program) -> Result<State, AllocError>
         ensures value { IfOk result (λ s. s ≡ start program.now) }
         ensures of { IfOk result (λ s. IsOf program.now s) }
@@ -169,11 +165,7 @@ impl State {
         })
     }
 
-    /// A copy of the state.
-    ///
-    /// # Errors
-    ///
-    /// `AllocError` where memory runs out.
+    /// A copy of the state. Fails where memory runs out.
     pub fn try_clone(&self, alloc: Global) -> Result<State, AllocError>
         ensures { IfOk result (λ s. s ≡ self.now) }
     {
@@ -343,11 +335,7 @@ impl State {
     }
 
     /// The end view, the kind and the variables' values, where this state is an end; `None` where a
-    /// thread can still take a step.
-    ///
-    /// # Errors
-    ///
-    /// `AllocError` where memory runs out.
+    /// thread can still take a step. Fails where memory runs out.
     pub fn view(&self, alloc: Global, program: &Program) -> Result<Option<EndView>, AllocError>
         requires { IsOf program.now self.now }
         ensures { IfOk result (λ v. v ≡ view_of program.now self.now) }

@@ -35,22 +35,15 @@ impl Table {
         }
     }
 
-    /// Makes the first column wide enough for a file of this name.
-    ///
-    /// # Errors
-    ///
-    /// `AllocError` where memory runs out.
+    /// Makes the first column wide enough for a file of this name. Fails where memory runs out.
     pub fn make_room(&mut self, file: &str) -> Result<(), AllocError> {
         let width = escaped(self.alloc, file)?.len();
         self.file_width = self.file_width.max(width);
         Ok(())
     }
 
-    /// The first line of the table, which has the heads of the columns.
-    ///
-    /// # Errors
-    ///
-    /// `AllocError` where memory runs out.
+    /// The first line of the table, which has the heads of the columns. Fails where memory runs
+    /// out.
     pub fn head(&self) -> Result<Vec<u8>, AllocError> {
         let heads = ["verdict", "bound", "preemptions", "schedule", "tried"];
         self.line("file", heads, "note")
@@ -59,11 +52,8 @@ impl Table {
     /// The line of a file, in ASCII: its verdict, the bound of the search, the preemptions of the
     /// bad schedule and that schedule, how many schedules were tried, and a note where the verdict
     /// isn't all that there is to say. Where the note names a line of the file, and a
-    /// preprocessor's `marks` say where that line came from, it names that place.
-    ///
-    /// # Errors
-    ///
-    /// `AllocError` where memory runs out.
+    /// preprocessor's `marks` say where that line came from, it names that place. Fails where
+    /// memory runs out.
     pub fn row(&self, entry: &Entry, marks: &Marks) -> Result<Vec<u8>, AllocError> {
         let file = escaped(self.alloc, entry.file.as_str())?;
         let note = note_of(self.alloc, entry, marks)?;
@@ -255,11 +245,7 @@ fn put_search_remarks(
 /// The JSON of a file, an object and a line feed: `file`, `expect` (what is expected, or null),
 /// `status` and `note`, and then the members of its report, or `fault`, which says why it has none.
 /// Where the note names a line of the file, and a preprocessor's `marks` say where that line came
-/// from, it names that place.
-///
-/// # Errors
-///
-/// `AllocError` where memory runs out.
+/// from, it names that place. Fails where memory runs out.
 pub fn json_line(alloc: Global, entry: &Entry, marks: &Marks) -> Result<Vec<u8>, AllocError> {
     let file = Value::try_from_str(alloc, entry.file.as_str())?;
     let expected = match entry.expected {

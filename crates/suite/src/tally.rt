@@ -22,11 +22,7 @@ impl Tally {
         }
     }
 
-    /// Adds the status of one more file that is done.
-    ///
-    /// # Errors
-    ///
-    /// `AllocError` where memory runs out.
+    /// Adds the status of one more file that is done. Fails where memory runs out.
     pub fn push(&mut self, status: u8) -> Result<(), AllocError>
         ensures { IfOk result (λ _.
             self.new.statuses.items ≡ self.old.statuses.items ++ status ∷ []) }

@@ -152,11 +152,7 @@ impl Summary {
         self.ends.as_slice()
     }
 
-    /// An equal summary, in memory of its own.
-    ///
-    /// # Errors
-    ///
-    /// `AllocError` where memory runs out.
+    /// An equal summary, in memory of its own. Fails where memory runs out.
     pub fn try_clone(&self, alloc: Global) -> Result<Summary, AllocError>
         ensures { IfOk result (λ s. s ≡ self.now) }
     {
@@ -171,11 +167,8 @@ impl Summary {
     }
 
     /// This summary and another as one: the counts added up to the greatest `u64`, the lesser first
-    /// bad schedule, the end views of both; beyond the bound where one of them is.
-    ///
-    /// # Errors
-    ///
-    /// `AllocError` where memory runs out.
+    /// bad schedule, the end views of both; beyond the bound where one of them is. Fails where
+    /// memory runs out.
     #[tactic(auto, using(crate::proofs::SumsJoin::join_kept), unfolding(crate::specs::Summaries::join))]
     pub fn join(&self, alloc: Global, other: &Summary) -> Result<Summary, AllocError>
         ensures { IfOk result (λ s. s ≡ join self.now other.now) }
@@ -193,11 +186,8 @@ impl Summary {
     /// Makes this summary what [`Summary::join`] answers for it and another. No view is copied, and
     /// no memory is taken where the other has no end view that is new. Hints tell at which index an
     /// end view was found in earlier joins, and may be wrong. Parts are moved out of the other: it
-    /// stays a summary, but it isn't said of what.
-    ///
-    /// # Errors
-    ///
-    /// `AllocError` where memory runs out; both summaries are then as before.
+    /// stays a summary, but it isn't said of what. Fails where memory runs out; both summaries are
+    /// then as before.
     #[tactic(auto, unfolding(crate::specs::Summaries::join))]
     pub fn join_in(&mut self, hints: &mut EndHints, other: &mut Summary) -> Result<(), AllocError>
         ensures joined { self.new ≡ (if is_ok result then join self.old other.old else self.old) }
@@ -224,10 +214,7 @@ impl Summary {
     /// Adds a complete schedule, which ends with this kind and these values of the variables:
     /// counts it, and keeps it if it is the first bad one, and its end view if that is new. Tests
     /// the usual case first: the schedule isn't bad, and its end view stands where a hint says.
-    ///
-    /// # Errors
-    ///
-    /// `AllocError` where memory runs out; the summary is then as before.
+    /// Fails where memory runs out; the summary is then as before.
     #[inline(always)]
     #[tactic(auto, unfolding(crate::specs::Summaries::added))]
     pub fn add(

@@ -236,11 +236,7 @@ fn has_several_files(origins: &[Option<Origin>], text: &[u8]) -> bool {
 }
 
 impl Marks {
-    /// Where the lines of a text come from, by the marks in it.
-    ///
-    /// # Errors
-    ///
-    /// `AllocError` where memory runs out.
+    /// Where the lines of a text come from, by the marks in it. Fails where memory runs out.
     pub fn new(alloc: Global, text: &[u8]) -> Result<Marks, AllocError>
         ensures { IfOk result (λ marks. origins_in marks
             ≡ origins None (slice_split (λ b. b == 10) text.now)) }

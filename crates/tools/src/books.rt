@@ -150,7 +150,8 @@ fn doubled_counts(alloc: Global, summary: &Summary) -> Option<(u64, usize)> {
     Some((copy.tried(), copy.ends().len()))
 }
 
-// A copy of the item of this prefix; `None` where a call to make or to copy it fails twice.
+// A copy of the item of this prefix. Where memory is refused, it is made, or copied, once more;
+// `None` where that fails, too, or the program can't be shared once more.
 fn item_after(alloc: Global, program: &Arc<Program>, steps: &[u8]) -> Option<Item> {
     let item = match Item::at(alloc, Arc::try_clone(program).ok()?, steps) {
         Ok(item) => item,
@@ -171,7 +172,8 @@ fn count_seats(alloc: Global) -> Option<usize> {
     Some(seats.len())
 }
 
-// A new book of a program, at bound 0, made once more if memory is refused; `None` if it is again.
+// A new book of a program, at bound 0. Where memory is refused, a second one is tried; `None` where
+// that fails, too, or the program can't be shared once more.
 fn open_book(alloc: Global, program: &Arc<Program>) -> Option<Book> {
     match Book::open(alloc, Arc::try_clone(program).ok()?, Mode::Bounded(0)) {
         Ok(book) => Some(book),

@@ -216,8 +216,8 @@ impl Gate for LoggingGate {
         }
     }
 
-    // Logs the end of a round, with the open items in place of a worker, so at most `u16::MAX`: an
-    // entry has 16 bits for them. Then resets what is counted in a round.
+    // Logs the end of a round: how many items are open, at most `u16::MAX`, as an entry has 16 bits
+    // for that, and how many schedules were tried. Then begins to count for the next round.
     fn round_ended(&self, progress: Progress) {
         let open = progress.open_items.min(u16::MAX as usize) as u32;
         self.log(Event::Round, open, progress.tried);

@@ -128,11 +128,7 @@ fn put_unblocking_statements(
 
 /// Each statement that could end the wait of a blocked thread, with what came of it, in the order
 /// of threads and instructions. `fates` has, for each thread, what came of each of its
-/// instructions.
-///
-/// # Errors
-///
-/// `AllocError` where memory runs out.
+/// instructions. Fails where memory runs out.
 pub fn unblocking_statements(
     alloc: Global,
     program: &Program,

@@ -126,11 +126,8 @@ fn fates_of(
     Ok(fates)
 }
 
-/// What came of each instruction of each thread in an explained schedule.
-///
-/// # Errors
-///
-/// `AllocError` where memory runs out.
+/// What came of each instruction of each thread in an explained schedule. Fails where memory runs
+/// out.
 pub fn all_fates(
     alloc: Global,
     program: &Program,

@@ -57,11 +57,7 @@ pub struct Waits {
 
 impl Waits {
     /// The waits of all threads that are blocked at the end of an explained schedule, also where a
-    /// thread stopped in an error, and the circles of these threads.
-    ///
-    /// # Errors
-    ///
-    /// `AllocError` where memory runs out.
+    /// thread stopped in an error, and the circles of these threads. Fails where memory runs out.
     pub fn new(alloc: Global, program: &Program, told: &Explanation) -> Result<Waits, AllocError>
         ensures { IfOk result (TellsWaits program.now told.now) }
     {

@@ -155,11 +155,8 @@ fn ensure_frame(frames: &mut Vec<Frame>, depth: usize, machine: &Machine) -> Res
 }
 
 impl Path {
-    /// The path without steps, at the initial state of a program. It has no frame.
-    ///
-    /// # Errors
-    ///
-    /// `AllocError` where memory runs out.
+    /// The path without steps, at the initial state of a program. It has no frame. Fails where
+    /// memory runs out.
     pub fn start(alloc: Global, program: &Program) -> Result<Path, AllocError>
         ensures { IfOk result (IsPath program.now) }
     {
@@ -180,11 +177,7 @@ impl Path {
     }
 
     /// Pushes a frame of the path's node and state, to which the walk can backtrack. It is written
-    /// over an unused one, if there is one.
-    ///
-    /// # Errors
-    ///
-    /// `AllocError` where memory runs out.
+    /// over an unused one, if there is one. Fails where memory runs out.
     #[inline(always)]
     pub fn push_frame(&mut self, _program: &Program) -> Result<(), AllocError>
         requires { IsPath _program.now self.old }
@@ -235,11 +228,8 @@ impl Path {
     /// Extends the path by a run of an enabled thread, and returns the run. It is one step, after
     /// which the threads `asleep` sleep. Where the node after it is at the mode's bound, further
     /// steps of the thread follow, `2 * INSTRUCTIONS` in all at most, as long as it and the same
-    /// other threads are enabled: a step of another would pass the bound.
-    ///
-    /// # Errors
-    ///
-    /// `AllocError` where memory runs out; no step is taken then.
+    /// other threads are enabled: a step of another would pass the bound. Fails where memory runs
+    /// out; no step is taken then.
     #[inline(always)]
     pub fn extend(
         &mut self,
@@ -314,11 +304,8 @@ impl Path {
     }
 
     /// Makes the steps of a schedule the path's: goes back to steps with which the schedule begins,
-    /// and takes the others. Where the path has no frame, pushes one of its node first.
-    ///
-    /// # Errors
-    ///
-    /// `AllocError` where memory runs out.
+    /// and takes the others. Where the path has no frame, pushes one of its node first. Fails where
+    /// memory runs out.
     pub fn replay(&mut self, program: &Program, schedule: &[u8]) -> Result<(), AllocError>
         requires path { IsPath program.now self.old }
         requires runs { runs program.now (start program.now) schedule.now ≡ true }

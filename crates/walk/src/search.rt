@@ -96,9 +96,9 @@ impl Found {
         self.defer_siblings(&steps[..place], without_first(past, first))
     }
 
-    // Defers steps of the threads `past`, if any, each past the bound, from the node to which the
-    // first `place` of `steps` lead: notes that some schedule has more preemptions than the bound,
-    // and lists the prefixes that end in these steps, unless deferred prefixes aren't listed.
+    // Defers the steps of the threads in `past` from the node to which the first `place` of `steps`
+    // lead: each would be past the bound. If there are any, notes that some schedule has more
+    // preemptions than the bound and, where deferred prefixes are listed, lists those of the steps.
     #[inline(always)]
     pub(crate) fn defer(
         &mut self,
@@ -621,11 +621,7 @@ impl Path {
     /// Tries the first schedules of an item, at most `quota`, and adds them, the items that it
     /// leaves and the prefixes that it defers to `found`. Where the item's own prefix has more
     /// preemptions than the bound, only notes that some schedule has. `ends` is called for its
-    /// contract alone.
-    ///
-    /// # Errors
-    ///
-    /// `AllocError` where memory runs out.
+    /// contract alone. Fails where memory runs out.
     pub fn walk(
         &mut self,
         alloc: Global,

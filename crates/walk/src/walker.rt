@@ -37,11 +37,7 @@ impl Model for Walker {
 }
 
 impl Walker {
-    /// A walker of items of a program, at its initial state.
-    ///
-    /// # Errors
-    ///
-    /// `AllocError` where memory runs out.
+    /// A walker of items of a program, at its initial state. Fails where memory runs out.
     pub fn new(alloc: Global, program: Arc<Program>) -> Result<Walker, AllocError>
         ensures { IfOk result (λ w. w ≡ arc_value program) }
     {
@@ -64,12 +60,8 @@ impl Walker {
     /// Tries the first `quota` schedules of an item of the walker's program in a mode, or all where
     /// there are fewer, as [`walk`] does. Adds what it tried, left and deferred to `found`, which
     /// may have what other walks found. The number of schedules that `found` counts and `quota`
-    /// have to add up to less than 2^64 - 1.
-    ///
-    /// # Errors
-    ///
-    /// `AllocError` where memory runs out. The walker can be used again then; of what was found
-    /// some may be lost.
+    /// have to add up to less than 2^64 - 1. Fails where memory runs out. The walker can be used
+    /// again then; of what was found some may be lost.
     pub fn walk_into(
         &mut self,
         alloc: Global,
@@ -94,11 +86,7 @@ impl Walker {
 ///
 /// Trying the schedules within a bound of preemptions, and raising the bound, is the idea of
 /// Musuvathi and Qadeer, "Iterative Context Bounding for Systematic Testing of Multithreaded
-/// Programs" (PLDI 2007).
-///
-/// # Errors
-///
-/// `AllocError` where memory runs out.
+/// Programs" (PLDI 2007). Fails where memory runs out.
 pub fn walk(alloc: Global, item: &Item, mode: Mode, quota: u32) -> Result<Walked, AllocError>
     requires { 1 ≤ quota }
     ensures item { IfOk result (λ w. w.item ≡ item.now) }

@@ -226,11 +226,7 @@ fn prefixes_command<'a>(alloc: Global) -> Result<Command<'a>, AllocError> {
         .arg(arg!(in alloc; --unbounded "List those that a search without a bound enters"))
 }
 
-/// The command `join`: the report that parts of a search join to.
-///
-/// # Errors
-///
-/// `AllocError` where memory runs out.
+/// The command `join`: the report that parts of a search join to. Fails where memory runs out.
 pub fn join_command<'a>(alloc: Global) -> Result<Command<'a>, AllocError> {
     let about = "Joins what was found under prefixes to the report of the whole search";
     let parts = arg!(in alloc; [PART]...
@@ -246,11 +242,8 @@ pub fn join_command<'a>(alloc: Global) -> Result<Command<'a>, AllocError> {
         .arg(unbounded.conflicts_with("bound")?)
 }
 
-/// The command `ctxbound`, with a subcommand for each thing that it can be asked for.
-///
-/// # Errors
-///
-/// `AllocError` where memory runs out.
+/// The command `ctxbound`, with a subcommand for each thing that it can be asked for. Fails where
+/// memory runs out.
 pub fn ctxbound_command<'a>(alloc: Global) -> Result<Command<'a>, AllocError> {
     Command::new(alloc, "ctxbound")
         .about("Looks for schedules under which a guest program fails or gets stuck")

@@ -100,11 +100,8 @@ impl<N: SearchBrand> BrandedBook<N> {
 
     /// Settles the walks that a worker keeps of a round, all at once; the worker keeps none then.
     /// They are given up, that is, their items stay open, where these aren't open in the order of
-    /// the walks, or where the book lists deferred prefixes and the walks don't.
-    ///
-    /// # Errors
-    ///
-    /// `AllocError` where memory runs out; the walks are given up then.
+    /// the walks, or where the book lists deferred prefixes and the walks don't. Fails where memory
+    /// runs out; the walks are given up then.
     pub fn settle(
         &mut self,
         alloc: Global,
@@ -151,11 +148,8 @@ impl<N: SearchBrand> BrandedBook<N> {
         }
     }
 
-    /// Replaces `items`, items of the same program, by copies of those of the next round.
-    ///
-    /// # Errors
-    ///
-    /// `AllocError` where memory runs out.
+    /// Replaces `items`, items of the same program, by copies of those of the next round. Fails
+    /// where memory runs out.
     pub fn next_round(&mut self, alloc: Global, items: &mut Vec<Item>) -> Result<(), AllocError>
         requires { AreOf N.of.program items.old.items }
         ensures round { OnOk result (items.new.items

@@ -45,11 +45,8 @@ pub(crate) struct Desk<N: SearchBrand> {
 
 impl<N: SearchBrand> Desk<N> {
     /// A desk with a book and the first round of a stretch, which follows an empty round 0.
-    /// `own_from` is the number of open items from which on workers have rounds of their own.
-    ///
-    /// # Errors
-    ///
-    /// `AllocError` where memory runs out.
+    /// `own_from` is the number of open items from which on workers have rounds of their own. Fails
+    /// where memory runs out.
     pub fn new(
         alloc: Global,
         book: Book,
@@ -167,10 +164,7 @@ impl<N: SearchBrand> Desk<N> {
     /// Goes on from a round whose items are all done to the next, or ends the stretch. Unless the
     /// round was noted as the last, first drops open items of a quick book that can't hold the
     /// first bad schedule any more. If another round follows, tells the gate how far the search is.
-    ///
-    /// # Errors
-    ///
-    /// `AllocError` where memory runs out. The stretch is over then.
+    /// Fails where memory runs out. The stretch is over then.
     pub fn advance<G: Gate>(&mut self, alloc: Global, gate: &G) -> Result<(), AllocError>
         ensures book { self.new.book
             ≡ (if self.old.ends then self.old.book else thinned self.old.book) }

@@ -54,11 +54,8 @@ pub(crate) struct Lender<N: SearchBrand> {
 }
 
 impl<N: SearchBrand> Lender<N> {
-    /// A lender of a book's open items to `workers` workers, which are numbered from 0.
-    ///
-    /// # Errors
-    ///
-    /// `AllocError` where memory runs out.
+    /// A lender of a book's open items to `workers` workers, which are numbered from 0. Fails where
+    /// memory runs out.
     pub fn new(
         alloc: Global,
         book: Book,
@@ -83,11 +80,8 @@ impl<N: SearchBrand> Lender<N> {
         })
     }
 
-    /// Gives the book back, once the stretch is over. Items that are still lent are open.
-    ///
-    /// # Errors
-    ///
-    /// `AllocError` where memory runs out or was refused to a worker.
+    /// Gives the book back, once the stretch is over. Items that are still lent are open. Fails
+    /// where memory runs out or was refused to a worker.
     pub fn into_book(self, alloc: Global) -> Result<Book, AllocError>
         ensures { IfOk result (λ b. IsOf b N.of N.mode N.quick N.lists) }
     {

@@ -148,11 +148,7 @@ fn run_workers<N: SearchBrand + Send + Sync, G: Gate, R: Threads + Wait + Sync>(
 }
 
 /// Lets each of a team's workers walk rounds of its own, of items that the book lends to it, and
-/// settle the walks, until nothing more is lent. Answers the team.
-///
-/// # Errors
-///
-/// `AllocError` where memory runs out.
+/// settle the walks, until nothing more is lent. Answers the team. Fails where memory runs out.
 pub(crate) fn run_own_rounds<N: SearchBrand + Send + Sync, G: Gate, R: Threads + Wait + Sync>(
     team: Team,
     rt: &R,

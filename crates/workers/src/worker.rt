@@ -76,11 +76,8 @@ impl Worker {
     }
 
     /// Walks the item with this index in a round, and keeps the walk, to be settled later. Answers
-    /// whether the walks that the worker keeps found a bad schedule.
-    ///
-    /// # Errors
-    ///
-    /// `AllocError` where memory runs out. The worker keeps no walk then.
+    /// whether the walks that the worker keeps found a bad schedule. Fails where memory runs out.
+    /// The worker keeps no walk then.
     pub fn walk(&mut self, alloc: Global, round: &Round, place: usize) -> Result<bool, AllocError>
         requires round { IsRoundOf self.old.walker round.now.mode round.now }
         requires place { place < vec_len round.now.items }

@@ -58,11 +58,8 @@ fn put_notes(out: &mut Vec<u8>, text: &[u8], notes: &[Note]) -> Result<(), Alloc
 
 impl Diagnostic {
     /// Adds to `out` the lines of a diagnostic on a text: the headline, the source line with carets
-    /// under the bytes of the span, if there is one, the message, and the notes.
-    ///
-    /// # Errors
-    ///
-    /// `AllocError` where memory runs out.
+    /// under the bytes of the span, if there is one, the message, and the notes. Fails where memory
+    /// runs out.
     pub fn put(&self, out: &mut Vec<u8>, text: &[u8]) -> Result<(), AllocError>
         ensures { Puts result out.old out.new (diagnostic_lines text.now self.now) }
     {
