@@ -25,10 +25,10 @@ define HELP
                     at first 1 to 10 minutes and those of the crates below it, then seconds
                     to minutes; up to 4 GB, and up to 2 GB on disk
   make build      proves and builds the program, and leaves it at build/ctxbound
-                    half an hour at first, up to 8 GB, and 3 GB on disk
+                    three quarters of an hour at first, up to 8 GB, and 3 GB on disk
   make test       the gate: each proof from nothing, each wrong body, each test, the commands
                   that the documents show, and refused memory
-                    some 40 minutes on four processors, 69 on two; up to 12 GB, and up to 10 GB on disk
+                    some 85 minutes on four processors; up to 12 GB, and up to 10 GB on disk
   make shown      runs the documents' commands by build/ctxbound, and all else that is tried of it by
                   scripts: a few minutes
   make fuzz [MINUTES=10]
@@ -133,7 +133,7 @@ quick-%:
 
 build:
 	@mkdir -p build
-	@echo "Proving and building the program and what it is built from: about half an hour at first,"
+	@echo "Proving and building the program and what it is built from: three quarters of an hour at first,"
 	@echo "under a minute after a small edit. To look at its progress: tail -f build/log"
 	@cd crates/ctxbound && rt run -- replay data/race.guest 0 > ../../build/log 2>&1 \
 		|| { cat ../../build/log; exit 1; }
