@@ -29,7 +29,7 @@ use Rattle.machine.specs.declared.control.steps.MovingThread.{MovingThread}
 use Rattle.machine.specs.Refinement.{HasObjects, HasThreadAt, IsControl}
 use Rattle.machine.specs.inner.LocalRuns.{narrow}
 use Rattle.machine.specs.inner.Parts.{IsLeaving}
-use Rattle.machine.specs.inner.Runs.{run_to, IsGoing, IsRunTo}
+use Rattle.machine.specs.inner.Runs.{run_to, IsGoing, IsRunTo, IsSetBut}
 use Rattle.machine.specs.inner.Steps.{Faces, HasShared, IsReadyIn, IsPoised, IsPerformed, IsPassed, IsStepped, settled, place_after}
 use Rattle.machine.proofs.LocalRuns.{passed, turned_on}
 use Rattle.semantics.specs.declared.local.Turn.{Turn}
@@ -71,9 +71,9 @@ pub begun : (p : Program) (s : Snapshot) (t : ℕ) (c d : Control) (cells mine c
     (pc : ℕ) (m : MovingThread)
     → IsReadyIn p s t c cells mine → IsPerformed p s t d cells' mine' m.status
     → pc ≡ (thread_at s t).pc → pc < length (code_of p t) → length mine' ≡ length mine
-    → m.place ≡ place_after m.status pc → m.steps ≡ 1
+    → m.place ≡ place_after m.status pc → m.steps ≡ 1 → has m.among t ≡ true
     → IsGoing p s t d cells' mine' m
-begun p s t c d cells mine cells' mine' pc m ready q here inside long place one = record {
+begun p s t c d cells mine cells' mine' pc m ready q here inside long place one itself = record {
   done = 0;
   steps = one;
   of = ready.of;
@@ -82,7 +82,7 @@ begun p s t c d cells mine cells' mine' pc m ready q here inside long place one 
       (passed p s t d cells' mine' pc m.status q here below);
   others = λ u ne. refl;
   between = λ k some few. absurd (omega (arith, some, few, one));
-  itself = λ more. absurd (omega (arith, more, one));
+  itself = itself;
   few = omega (arith, one);
   fewer = λ e. (let next = place_next m.status pc e in omega (arith, one, place, next));
   within = let few = place_within m.status pc (length (code_of p t)) inside in
@@ -247,10 +247,9 @@ module _ (p : Program) (s : Snapshot) (t : ℕ) (c : Control) (cells mine : List
   pub going_further : (d : Control) (cells' mine' : List ℤ) (n : MovingThread)
       → IsPerformed p (run_to p s t m.steps) t d cells' mine' n.status
       → length mine' ≡ length mine → n.place ≡ place_after n.status m.place
-      → n.steps ≡ m.steps + 1 → has n.among t ≡ true
-      → ((u : ℕ) → u ≢ t → has n.among u ≡ has c.enabled u)
-      → (1 < m.steps → n.among ≡ m.among) → IsGoing p s t d cells' mine' n
-  going_further d cells' mine' n q long place steps itself others same = record {
+      → n.steps ≡ m.steps + 1 → n.among ≡ m.among → IsSetBut t c.enabled m.among
+      → IsGoing p s t d cells' mine' n
+  going_further d cells' mine' n q long place steps same is_set = record {
     done = m.steps;
     steps = steps;
     of = poised.of;
@@ -259,14 +258,14 @@ module _ (p : Program) (s : Snapshot) (t : ℕ) (c : Control) (cells mine : List
         (passed p (run_to p s t m.steps) t d cells' mine' m.place n.status q at below);
     others = λ u ne. ap (λ (x : Snapshot). (thread_at x u).locals) last
         ∙ (stepped u ne ∙ h.others u ne);
-    between = λ k some few. elim (cases_order k m.steps) [
-      | inl e ↦ subst (λ (j : ℕ). HasEnabled n.among p (run_to p s t j)) (sym e)
-          (enabled_going n.among itself others)
-      | inr (inl l) ↦ subst (λ on. HasEnabled on p (run_to p s t k))
-          (sym (same (omega (arith, some, l)))) (h.between k some l)
-      | inr (inr g) ↦ absurd (omega (arith, few, steps, g))
-    ];
-    itself = λ more. itself;
+    between = λ k some few. subst (λ on. HasEnabled on p (run_to p s t k)) (sym same)
+        (elim (cases_order k m.steps) [
+          | inl e ↦ subst (λ (j : ℕ). HasEnabled m.among p (run_to p s t j)) (sym e)
+              (enabled_going m.among is_set.0 is_set.1)
+          | inr (inl l) ↦ h.between k some l
+          | inr (inr g) ↦ absurd (omega (arith, few, steps, g))
+        ]);
+    itself = ap (λ on. has on t) same ∙ is_set.0;
     few = let more = place_more n.status m.place in
         omega (arith, steps, place, more, h.fewer runs);
     fewer = λ e. (let next = place_next n.status m.place e in

@@ -19,6 +19,9 @@ use semantics::mask::Mask;
 use std::alloc::{AllocError, Global};
 use summary::EndMemory;
 
+/// From how many steps on a run is filled in at once.
+const LONG_RUN: u32 = 8;
+
 /// A node of the tree of schedules.
 #[derive(Clone, Copy, Debug)]
 pub struct Node {
@@ -123,13 +126,18 @@ fn grow_words(words: &mut Vec<i64>, count: usize) -> Result<(), AllocError>
     Ok(())
 }
 
-// Appends a run to a path's steps, which have room for it: `count` steps of one thread.
+// Appends a run to a path's steps, which have room for it: `count` steps of one thread. A long run
+// is filled in at once, which a short one doesn't repay.
 #[inline(always)]
 fn push_run(steps: &mut Vec<u8>, thread: u8, count: u32)
     requires some { 1 ≤ count }
     requires room { vec_len steps.old + count ≤ vec_capacity steps.old }
     ensures { steps.new.items ≡ steps.old.items ++ replicate count thread }
 {
+    if count >= LONG_RUN {
+        let _ = steps.resize(steps.len() + count as usize, thread);
+        return;
+    }
     steps.push_reserved(thread);
     for _ in 1..count {
         steps.push_reserved(thread);

@@ -1,6 +1,7 @@
 -- Runs: steps of one thread, with none of another between them.
 use Rattle.std.specs.Prelude.{◌≡◌, ◌≢◌, ℕ, ◌+◌, ◌<◌, ◌≤◌, ℤ, true, List, length, take, replicate, All}
 use Rattle.guest_code.specs.Program.{Program, code_of, LocalsBelow}
+use Rattle.semantics.specs.declared.mask.Mask.{Mask}
 use Rattle.semantics.specs.declared.state.Status.TheVariants.{Running}
 use Rattle.semantics.specs.Machine.{Snapshot, thread_at, is_enabled}
 use Rattle.semantics.specs.Mask.{has, HasEnabled}
@@ -16,6 +17,10 @@ use Rattle.machine.specs.inner.Steps.{HasShared, IsPassed}
 abbrev pub run_to : Program → Snapshot → ℕ → ℕ → Snapshot
 run_to p s t n = state_after p s (replicate n t)
 
+-- the second set has the thread, and of the others those of the first
+abbrev pub IsSetBut : ℕ → Mask → Mask → Type 0
+IsSetBut t on among = (has among t ≡ true) × ((u : ℕ) → u ≢ t → has among u ≡ has on u)
+
 -- thread t took its steps from s on, and is in the midst of the last one
 pub record IsGoing (p : Program) (s : Snapshot) (t : ℕ) (c : Control) (cells mine : List ℤ)
     (m : MovingThread) : Type 0 where
@@ -26,7 +31,7 @@ pub record IsGoing (p : Program) (s : Snapshot) (t : ℕ) (c : Control) (cells m
   pub passed : IsPassed p (run_to p s t done) t c cells mine m.place m.status
   pub others : (u : ℕ) → u ≢ t → (thread_at (run_to p s t done) u).locals ≡ (thread_at s u).locals
   pub between : (k : ℕ) → 1 ≤ k → k < m.steps → HasEnabled m.among p (run_to p s t k)
-  pub itself : 1 < m.steps → has m.among t ≡ true
+  pub itself : has m.among t ≡ true
   pub few : m.steps ≤ m.place + 1
   pub fewer : m.status ≡ Running → m.steps ≤ m.place
   pub within : m.place ≤ length (code_of p t)

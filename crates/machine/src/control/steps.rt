@@ -1,6 +1,6 @@
 //! Steps and runs of a thread, on the control, the values of the variables, and its own locals.
 
-ghost use Rattle.std.specs.Prelude.{◌≡◌, ◌<◌, ◌≤◌, ◌^◌, ◌*◌, ℕ, ℤ, ◌+◌, List, take, true, false, length, slice_get, slice_index_or, slice_set, replicate, pos, Some, All, IsTrue, IsFalse};
+ghost use Rattle.std.specs.Prelude.{◌≡◌, ◌<◌, ◌≤◌, ◌^◌, ◌*◌, ℕ, ℤ, ◌+◌, List, take, true, false, length, slice_get, slice_index_or, slice_set, replicate, pos, Some, All, IsTrue};
 ghost use Rattle.guest_code.specs.declared.limits.TheConstants.{INSTRUCTIONS};
 ghost use Rattle.semantics.specs.Mask.{has, HasEnabled};
 ghost use Rattle.guest_code.specs.Program.{Program, IsValid, IsValidCode, IsWellFormed, LocalsBelow, code_of};
@@ -16,7 +16,7 @@ ghost use Rattle.schedules.specs.Schedules.{state_after};
 ghost use Rattle.machine.specs.declared.control.Control.{Control};
 ghost use Rattle.semantics.specs.Turns.{IsAccessBelow};
 ghost use Rattle.machine.specs.inner.Steps.{HasShared, IsPoised, IsPerformed, IsPassed, IsStepped, IsReadyIn, Faces, place_after};
-ghost use Rattle.machine.specs.inner.Runs.{IsGoing, IsRunTo};
+ghost use Rattle.machine.specs.inner.Runs.{IsGoing, IsRunTo, IsSetBut};
 
 use crate::control::{Control, FREE};
 use crate::machine::{Run, Shape};
@@ -28,7 +28,7 @@ use semantics::state::{Status, Stop, VariableAction};
 use semantics::{Landing, Turn, access, run_if_local, run_local};
 
 // A thread in the midst of a run: where it is, with which status, after how many steps, and the
-// threads that were enabled after each of them but the last.
+// threads that were enabled after the first of them, itself counted in.
 #[derive(Clone, Copy, Debug)]
 pub(crate) struct MovingThread {
     thread: u8,
@@ -58,15 +58,6 @@ fn may_extend_run(alone: bool, status: Status) -> bool
     ensures running { IsTrue result → status ≡ Running }
 {
     alone && status == Status::Running
-}
-
-// Whether the set of the enabled threads has changed since the first step of a run, so that the run
-// is over: the threads `enabled` now aren't those after that step, which `among` holds. False where
-// `steps`, the number of steps that the run has taken, is 1: `among` is not set yet.
-fn enabled_set_changed(steps: u32, among: Mask, enabled: Mask) -> bool
-    ensures { IsFalse result → 1 < steps → enabled ≡ among }
-{
-    among != enabled && steps > 1
 }
 
 // The index of a condition's queue among a machine's values, where queues come after the variables.
@@ -316,9 +307,9 @@ impl Control {
     }
 
     // Takes a further step of a run, whose thread is at a visible instruction that it can perform,
-    // so that it is enabled. False where the run is over: where other threads are enabled than
-    // after its first step, so that the step isn't taken, or where the step leaves the thread
-    // waiting or stopped. `own` are its locals, `shared` the variables' values and the queues.
+    // so that it is enabled. False where the run is over: where other threads are enabled after the
+    // step than after the first one, or where the step leaves the thread waiting or stopped. `own`
+    // are its locals, `shared` the variables' values and the queues.
     #[inline(always)]
     fn try_further_step(
         &mut self,
@@ -332,33 +323,32 @@ impl Control {
         requires place { moving.old.place < length code.now }
         requires faces { Faces self.old (slice_get code.now moving.old.place) }
         requires valid { IsValidCode program.now code.now }
+        requires among { IsSetBut moving.old.thread self.old.enabled moving.old.among }
         requires going { (s : Snapshot) × (code.now ≡ code_of program.now moving.old.thread)
             × IsGoing program.now s moving.old.thread self.old shared.old own.old moving.old }
         ensures thread { moving.new.thread ≡ moving.old.thread }
         ensures place { moving.old.place ≤ moving.new.place }
         ensures further { IsTrue result → moving.old.place < moving.new.place }
         ensures running { IsTrue result → moving.new.status ≡ Running }
+        ensures among { IsTrue result
+            → IsSetBut moving.new.thread self.new.enabled moving.new.among }
         ensures going { (s : Snapshot)
             → IsGoing program.now s moving.old.thread self.old shared.old own.old moving.old
             → IsGoing program.now s moving.old.thread self.new shared.new own.new moving.new }
     {
         program.keeps_limits();
-        let enabled = self.enabled.with(moving.thread, true);
-        if enabled_set_changed(moving.steps, moving.among, enabled) {
-            return false;
-        }
-        moving.among = enabled;
         let place = moving.place;
         let status = self.perform(program, shared, own, moving.thread, &code[place]);
         moving.place = place_after(status, place);
         moving.status = status;
         moving.steps += 1;
-        status == Status::Running
+        let enabled = self.enabled.with(moving.thread, true);
+        (status == Status::Running) & (enabled == moving.among)
     }
 
     // Runs the next instruction of a run after its first step, be it local or visible. False where
     // the run is over: an assertion fails, the code ends, the thread waits, stops or can't take the
-    // step, or other threads are enabled than after the first step. `own` are the thread's locals,
+    // step, or other threads are enabled after it than after the first. `own` are its locals,
     // `shared` the values of the variables and the queues.
     #[inline(always)]
     fn try_instruction(
@@ -371,12 +361,15 @@ impl Control {
     ) -> bool
         requires running { moving.old.status ≡ Running }
         requires valid { IsValidCode program.now code.now }
+        requires among { IsSetBut moving.old.thread self.old.enabled moving.old.among }
         requires going { (s : Snapshot) × (code.now ≡ code_of program.now moving.old.thread)
             × IsGoing program.now s moving.old.thread self.old shared.old own.old moving.old }
         ensures thread { moving.new.thread ≡ moving.old.thread }
         ensures place { moving.old.place ≤ moving.new.place }
         ensures further { IsTrue result → moving.old.place < moving.new.place }
         ensures running { IsTrue result → moving.new.status ≡ Running }
+        ensures among { IsTrue result
+            → IsSetBut moving.new.thread self.new.enabled moving.new.among }
         ensures going { (s : Snapshot)
             → IsGoing program.now s moving.old.thread self.old shared.old own.old moving.old
             → IsGoing program.now s moving.old.thread self.new shared.new own.new moving.new }
@@ -459,7 +452,7 @@ impl Control {
             place: place_after(status, place),
             status,
             steps: 1,
-            among: Mask::empty(),
+            among: self.enabled.with(thread, true),
         };
         let mut going = may_extend_run(alone, status);
         while going {

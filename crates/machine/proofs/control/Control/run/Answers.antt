@@ -3,7 +3,7 @@ use Rattle.guest_code.specs.declared.program.Instruction.{Instruction}
 use Rattle.guest_code.specs.declared.program.Instruction.TheVariants.{Load}
 use Rattle.guest_code.specs.Program.{code_of}
 use Rattle.semantics.proofs.WorkFalls.{enabled_below}
-use Rattle.machine.specs.inner.Runs.{run_to, IsGoing, IsRunTo}
+use Rattle.machine.specs.inner.Runs.{run_to, IsGoing, IsRunTo, IsSetBut}
 use Rattle.machine.proofs.WholeSteps.{here_inside}
 use Rattle.machine.proofs.Runs.{begun, run_over, comes_further}
 use Rattle.machine.proofs.control.Control.run.Goals as goal
@@ -20,13 +20,18 @@ loop-going-init c = record {
       c.take_step-status.new.shared c.take_step-status.new.own _ _ ready
       (c.take_step-status.ensures s ready) (ready.control.threads t).place
       (here_inside p s t c.args.self.now (code_of p t) (Load 0 0) ready.control ready.enabled refl)
-      (omega arith) c.place_after.ensures refl;
+      (omega arith) c.place_after.ensures refl c.with.ensures.same;
+  among = λ _. (c.with.ensures.same, c.with.ensures.others);
 }
 
 pub loop-going-preserved : goal.loop-going-preserved
 loop-going-preserved c = record {
   thread = c.try_instruction-going.ensures.thread ∙ c.loop-going.invariant.thread;
   running = c.try_instruction-going.ensures.running;
+  among = λ on. subst (λ t. IsSetBut t c.try_instruction-going.new.self.enabled
+      c.try_instruction-going.new.moving.among)
+      (c.try_instruction-going.ensures.thread ∙ c.loop-going.invariant.thread)
+      (c.try_instruction-going.ensures.among on);
   one = λ e. (let off = (c.loop-going.invariant.one e).0 in
       let no : true ≡ false = sym c.loop-going-test.true ∙ off in absurd (cc));
   going = λ s ready.

@@ -25,5 +25,4 @@ returns-clause-going c = λ s h.
     going_further p s m.thread c.args.self.now c.args.shared.now c.args.own.now m
     c.args.code.now (Load 0 0) h c.requires.running c.requires.going.1 c.requires.valid c.requires.place
     c.requires.faces c.perform-status.new.self c.perform-status.new.shared c.perform-status.new.own
-    _ q (omega arith) c.place_after-moving.ensures refl c.with-enabled.ensures.same
-    c.with-enabled.ensures.others (c.enabled_set_changed.ensures c.if-enabled_set_changed.false)
+    _ q (omega arith) c.place_after-moving.ensures refl refl c.requires.among
