@@ -5,12 +5,11 @@ Usage: tests/docs.py BINARY
        tests/docs.py --unproved
 
 With --unproved the program is built without proofs, by `rt try`: three times side by side, each for a third
-of the commands. It checks each access to memory as it runs and is slow, so each command is run once. A suite of a
-document's programs is left out: it prints their names, and `rt try` gives them others.
+of the commands. It checks each access to memory as it runs and is slow, so each command is run once.
 
 In README.md and docs/*.md, fenced blocks are read by their first line:
 
-    ```guest NAME    a program; the commands below it find it as the file NAME
+    ```guest NAME    a program, the only one of this name; the commands below it find it as the file NAME
     ```console       commands `$ ctxbound ..`, each followed by the lines that it prints:
                      standard output, then standard error, then `[status N]` unless N is 0;
                      empty lines before the next command don't count
@@ -142,12 +141,23 @@ def run(binary, asked):
 
 
 def write_case(folder, number, asked):
-    """The files of a case for `rt try`: its words, and a document's program where it has one."""
-    named = [word for word in asked.words if word in asked.programs]
+    """The files of a case for `rt try`: what is on standard input, and its words. The program of a row, which has the
+    same name in each, is the case's own file."""
     case = folder / ("c%04d" % number)
-    case.write_text("".join(asked.programs[word] for word in named[:1]), encoding="utf-8")
-    words = ["{}" if word in named else word for word in asked.words]
+    case.write_text(asked.programs.get("FILE" if asked.is_row else "-", ""), encoding="utf-8")
+    words = ["{}" if asked.is_row and word == "FILE" else word for word in asked.words]
     Path(str(case) + ".args").write_text("\n".join(words) + "\n", encoding="utf-8")
+
+
+def files_of(all_asked, folder):
+    """The files that these commands find, by their names: the examples, and what the documents show."""
+    found = {str(path.relative_to(ROOT)): path for path in sorted((ROOT / "examples").glob("**/*.guest"))}
+    for asked in all_asked:
+        for name, text in asked.programs.items():
+            if not asked.is_row and name != "-":
+                found[name] = folder / name
+                found[name].write_text(text, encoding="utf-8")
+    return found
 
 
 def run_unproved(all_asked):
@@ -161,12 +171,12 @@ def run_unproved(all_asked):
 
 def run_by_one_build(all_asked):
     """What each of these commands prints, all run over one build without proofs."""
-    examples = [word for path in sorted((ROOT / "examples").glob("**/*.guest"))
-                for word in ("--data", "%s=%s" % (path.relative_to(ROOT), path))]
-    with tempfile.TemporaryDirectory() as folder:
+    with tempfile.TemporaryDirectory() as folder, tempfile.TemporaryDirectory() as cases:
         for number, asked in enumerate(all_asked):
-            write_case(Path(folder), number, asked)
-        done = subprocess.run(["rt", "try", *examples, "--cases", folder], cwd=ROOT / "crates/ctxbound",
+            write_case(Path(cases), number, asked)
+        data = [word for name, file in files_of(all_asked, Path(folder)).items()
+                for word in ("--data", "%s=%s" % (name, file))]
+        done = subprocess.run(["rt", "try", *data, "--cases", cases], cwd=ROOT / "crates/ctxbound",
                               stdin=subprocess.DEVNULL, stdout=subprocess.PIPE, stderr=subprocess.PIPE)
     # Output comes behind a line `== CASE`; what else is written, before a line `case=CASE ..`.
     outs = dict(re.findall(rb"^== (c\d{4})\n(.*?)(?=^== c\d{4}\n|\Z)", done.stdout, re.M | re.S))
@@ -197,17 +207,13 @@ class Asked:
         self.place, self.words, self.expected = place, words, expected
         self.programs, self.is_row = programs, is_row
 
-    def prints_names(self):
-        """Whether it prints the names of programs that a document shows."""
-        told = self.programs if self.words[:1] == ["suite"] else ("-",)
-        return self.words[:1] in (["suite"], ["explain"], ["verify"]) and any(word in told for word in self.words)
-
 
 class Reader:
     """Reads the documents: the commands that they show, and what is wrong in them."""
 
     def __init__(self, workers):
         self.workers, self.asked, self.faults = workers, [], []
+        self.shown = {}
 
     def take(self, path, shown, programs):
         """The words of a command, which is put to the others."""
@@ -235,6 +241,8 @@ class Reader:
                 if not name or "/" in name:
                     raise ValueError("line %d: a program needs a file name" % number)
                 programs = {**programs, name: "".join(line + "\n" for line in lines)}
+                if self.shown.setdefault(name, programs[name]) != programs[name]:
+                    raise ValueError("line %d: another program has the name %s" % (number, name))
                 unused[name] = number
             elif language == "console":
                 for shown in commands(lines, number):
@@ -279,15 +287,13 @@ def main():
     unproved = sys.argv[1] == "--unproved"
     reader = Reader(workers=not unproved)
     reader.read()
-    all_asked = reader.asked
     if unproved:
-        all_asked = [asked for asked in all_asked if not asked.prints_names()]
-        answers = run_unproved(all_asked)
+        answers = run_unproved(reader.asked)
     else:
         binary = str(Path(sys.argv[1]).resolve())
-        answers = (run(binary, asked) for asked in all_asked)
+        answers = (run(binary, asked) for asked in reader.asked)
     faults, passed = reader.faults, 0
-    for asked, printed in zip(all_asked, answers):
+    for asked, printed in zip(reader.asked, answers):
         if printed == asked.expected:
             passed += 1
         else:

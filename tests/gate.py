@@ -7,8 +7,10 @@ Each line of a part is passed on as it comes, behind the minute of the gate at w
 a part's closing line `N passed, M failed`, which stays alone, and for lines that say of one function
 or type that it is proved, which are left out. Before the last closing line there is a line on when each
 crate was proved, one on the processor time, and one on the whole. The first part that fails ends the gate,
-with its status.
+with its status. What `make quick` does with the documents runs beside the first proofs, which leave processors
+free, and is told of after them.
 """
+import atexit
 import re
 import resource
 import shutil
@@ -24,6 +26,7 @@ PROGRAM = "build/ctxbound"
 TOOLS = "crates/tools/out/tools"
 FIRST = "crates/first/out/first"
 LEFT_OUT = re.compile(r"\w+ \S+: proved$")
+UNPROVED = ["make", "--no-print-directory", "quick", "QUICK=quick-shown"]
 # What is tried of the built program after the commands that the documents show.
 TRIED = {
     "commands": [sys.executable, "tests/commands.py", PROGRAM, FIRST],
@@ -69,23 +72,25 @@ class Gate:
         if proved:
             self.proved_at[proved[1]] = self.minute()
 
-    def part(self, name, words):
-        """Runs a part and answers its closing line; where it fails, the gate ends."""
-        self.say("== " + name)
+    def start(self, words):
+        """Starts a part, which ends with the gate."""
         started = subprocess.Popen(words, cwd=ROOT, stdin=subprocess.DEVNULL, stdout=subprocess.PIPE,
                                    stderr=subprocess.STDOUT, text=True, errors="replace")
-        closing = None
-        try:
-            for line in started.stdout:
-                line = line.rstrip("\n")
-                if CLOSING.match(line):
-                    closing = line
-                elif not LEFT_OUT.match(line):
-                    self.count(line)
-                    self.say(line)
-            status = started.wait()
-        finally:
-            started.terminate()
+        atexit.register(started.terminate)
+        return started
+
+    def part(self, name, words, started=None):
+        """Runs a part, or awaits one that was started, and answers its closing line; where it fails, the gate ends."""
+        self.say("== " + name)
+        started, closing = started or self.start(words), None
+        for line in started.stdout:
+            line = line.rstrip("\n")
+            if CLOSING.match(line):
+                closing = line
+            elif not LEFT_OUT.match(line):
+                self.count(line)
+                self.say(line)
+        status = started.wait()
         if status:
             self.say("FAILED: " + name)
             print(closing or "0 passed, 1 failed", flush=True)
@@ -113,8 +118,10 @@ def main():
     # So that the part that runs is ended, too.
     signal.signal(signal.SIGTERM, lambda number, _: sys.exit(128 + number))
     gate = Gate()
+    started = gate.start(UNPROVED)
     gate.part("the list of wrong bodies", [sys.executable, "tests/edits.py"])
     print(gate.part("proofs, wrong bodies and tests", ["rt", "ci"]), flush=True)
+    print(gate.part("shown commands, nothing proved, in a copy whose path has a space", UNPROVED, started), flush=True)
     (ROOT / "build").mkdir(exist_ok=True)
     shutil.copyfile(ROOT / "crates/ctxbound/out/ctxbound", ROOT / PROGRAM)
     (ROOT / PROGRAM).chmod(0o755)
