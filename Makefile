@@ -1,5 +1,5 @@
 # `make help`, which is what a bare `make` does, lists the targets with what each costs.
-.PHONY: help run try quick build install uninstall dist check test shown fuzz bench clean
+.PHONY: help run try quick build install uninstall dist check test times shown fuzz bench clean
 
 PREFIX ?= /usr/local
 PROGRAM ?= build/ctxbound
@@ -17,8 +17,8 @@ define HELP
                   the trace of SCHEDULE, COMMAND=explore the report of a search and the trace
                     a minute, 2 GB
   make quick      all that needs no proof: the tests, the commands that the documents show,
-                  the list of wrong bodies; in a copy whose path has a space; and what `make shown`
-                  tries, where build/ctxbound is of these sources
+                  the list of wrong bodies, the budget of lines; in a copy whose path has a space; and what
+                  `make shown` tries, where build/ctxbound is of these sources
                     four to five minutes on four processors, up to 12 GB
   make check C=crate
                   proves one crate, over what earlier checks kept
@@ -29,6 +29,7 @@ define HELP
   make test       the gate: each proof from nothing, each wrong body, each test, the commands
                   that the documents show, and refused memory
                     some 85 minutes on four processors; up to 12 GB, and up to 10 GB on disk
+  make times      prints the seconds of each crate's last check beside those of tests/budget.txt
   make shown      runs the documents' commands by build/ctxbound, and all else that is tried of it by
                   scripts: a few minutes
   make fuzz [MINUTES=10]
@@ -115,6 +116,7 @@ QUICK = quick-shown quick-tried $(TESTED:%=quick-%)
 
 quick:
 	python3 tests/edits.py
+	python3 tests/budget.py
 	@there=$$(mktemp -d) && trap 'rm -rf "$$there"' EXIT && mkdir "$$there/a copy" "$$there/for now" && \
 	tar --exclude=./.git --exclude='./crates/*/out' -c . | tar -x -C "$$there/a copy" && \
 	TMPDIR="$$there/for now" $(MAKE) --no-print-directory -C "$$there/a copy" -k -j4 -Otarget $(QUICK)
@@ -181,6 +183,9 @@ check:
 # The programs that `rt ci` proved and built stay in their crates' folders.
 test:
 	@python3 tests/gate.py
+
+times:
+	@python3 tests/budget.py --times
 
 shown:
 	@$(NEEDS_PROGRAM)

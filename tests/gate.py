@@ -120,6 +120,7 @@ def main():
     gate = Gate()
     started = gate.start(UNPROVED)
     gate.part("the list of wrong bodies", [sys.executable, "tests/edits.py"])
+    gate.part("the budget of lines", [sys.executable, "tests/budget.py"])
     print(gate.part("proofs, wrong bodies and tests", ["rt", "ci"]), flush=True)
     print(gate.part("shown commands, nothing proved, in a copy whose path has a space", UNPROVED, started), flush=True)
     (ROOT / "build").mkdir(exist_ok=True)
