@@ -24,8 +24,10 @@ define HELP
                   proves one crate, over what earlier checks kept
                     at first 1 to 10 minutes and those of the crates below it, then seconds
                     to minutes; up to 4 GB, and up to 2 GB on disk
-  make build      proves and builds the program, and leaves it at build/ctxbound
-                    three quarters of an hour at first, up to 8 GB, and 3 GB on disk
+  make build [JOBS=4]
+                  proves and builds the program, as many crates at once as JOBS says, and leaves it at
+                  build/ctxbound. Without JOBS as many as there are processors, and 4 GB of free memory for each
+                    half an hour or more at first, and 3 GB on disk
   make test       the gate: each proof from nothing, each wrong body, each test, the commands
                   that the documents show, and refused memory
                     some 85 minutes on four processors; up to 12 GB, and up to 10 GB on disk
@@ -135,11 +137,15 @@ quick-%:
 	@cd crates/$* && rt try --test > ../../build/quick-$* 2>&1 || { cat ../../build/quick-$*; exit 1; }
 	@echo "$*: $$(grep '^test result: ' build/quick-$*)"
 
+JOBS ?= $(shell awk -v most="$$(nproc)" '/^MemAvailable:/ { some = int($$2 / 4000000); \
+	print some < 1 ? 1 : some < most ? some : most }' /proc/meminfo)
+
+# In a crate's folder `rt all` checks that crate and those that it stands on.
 build:
 	@mkdir -p build
-	@echo "Proving and building the program and what it is built from: three quarters of an hour at first,"
-	@echo "under a minute after a small edit. To look at its progress: tail -f build/log"
-	@cd crates/ctxbound && rt run -- replay data/race.guest 0 > ../../build/log 2>&1 \
+	@echo "Proving and building the program and what it is built from, $(JOBS) crates at once: half an hour or more"
+	@echo "at first, under a minute after a small edit. To look at its progress: tail -f build/log"
+	@cd crates/ctxbound && { rt all check --jobs $(JOBS) && rt run -- replay data/race.guest 0; } > ../../build/log 2>&1 \
 		|| { cat ../../build/log; exit 1; }
 	@cp crates/ctxbound/out/ctxbound build/ctxbound
 	@echo "Proved: the program is build/ctxbound"
