@@ -99,7 +99,8 @@ class Tester:
         return not gone
 
     def taken_up(self, what, name, bound, *words, **more):
-        """A script says that a part which was killed is missing, and the same command again takes it up."""
+        """A script says that a part which was killed is missing, and the same command again takes it up. What is kept is beside
+        the guest, or where FOLDER says."""
         done = self.run(*words, kills=what, **more)
         self.expect(what + ": a part was killed", done.returncode not in (0, 1) and not done.stdout, done.returncode,
                     done.stdout, done.stderr)
@@ -107,12 +108,28 @@ class Tester:
         done = self.run(*words, kills=what, **more)
         self.expect(what, (done.stdout, done.returncode) == self.wanted(name, bound), done.stdout, done.stderr, done.returncode)
         self.nothing_twice(what, name)
+        kept = self.folder / more.get("FOLDER", ".") / ("%s.%s.20" % (name, bound))
+        self.expect(what + ": the folder", kept.is_dir() and (not more or not (self.folder / kept.name).exists()), kept)
 
     def nothing_twice(self, what, name):
         """Under each prefix that is listed one search wasn't killed."""
         listed = self.run(self.binary, "prefixes", name, "--at-least", "20").stdout.decode().split()
         searched = [line.split()[-1] for line in (self.folder / (what + ".searches")).read_text().splitlines()]
         self.expect(what + ": each part is searched once", sorted(searched) == sorted(listed), searched)
+
+    def without_parallel(self):
+        """A program that is missing is named, also where another one has its name."""
+        for there in (None, "#!/bin/sh\necho other\n"):
+            tools = self.folder / ("with" if there else "without")
+            tools.mkdir()
+            for tool in ("sh", "dirname", "basename", "grep", "mkdir", "cat"):
+                (tools / tool).symlink_to(shutil.which(tool))
+            if there:
+                (tools / "parallel").write_text(there)
+                (tools / "parallel").chmod(0o755)
+            done = self.run("sh", SCRIPTS / "search_by_parallel.sh", "my guest", "2", PATH="%s:%s" % (tools, self.folder / "bin"))
+            self.expect("without GNU parallel, %s another" % tools.name, done.returncode == 127 and done.stderr.endswith(
+                b": GNU parallel isn't on the PATH\n") and not list(self.folder.glob("*.20")), done.returncode, done.stderr)
 
     def by_parallel(self):
         if not self.has("parallel"):
@@ -122,13 +139,14 @@ class Tester:
         done = self.run("sh", "-c", shown)
         self.expect("the pipeline that is shown", (done.stdout, done.returncode) == self.wanted("my.guest", "4"), done.stdout,
                     done.stderr)
-        for name, (_, bound) in GUESTS.items():
-            self.taken_up("parallel of " + name, name, bound, "sh", SCRIPTS / "search_by_parallel.sh", name, bound, "4/:")
+        for (name, (_, bound)), more in zip(GUESTS.items(), ({}, {"FOLDER": "kept here"})):
+            self.taken_up("parallel of " + name, name, bound, "sh", SCRIPTS / "search_by_parallel.sh", name, bound, "4/:", **more)
 
     def by_make(self):
         if not self.has("make"):
             return
         words = ["make", "-s", "-j", "4", "-f", SCRIPTS / "Makefile", "GUEST=fixed.guest", "BOUND=3"]
+        self.taken_up("make, where it is said", "fixed.guest", "3", *words, FOLDER="elsewhere")
         self.taken_up("make", "fixed.guest", "3", *words)
         shutil.copy(self.folder / "fixed.guest", self.folder / "kept")
         (self.folder / "fixed.guest").write_text((self.folder / "kept").read_text() + "# other\n")
@@ -136,6 +154,15 @@ class Tester:
         self.expect("make, where the guest is newer", (done.stdout, done.returncode) == self.wanted("fixed.guest", "3"),
                     done.stdout, done.stderr)
         shutil.copy(self.folder / "kept", self.folder / "fixed.guest")
+
+    def by_jobs(self):
+        """The script of Slurm's jobs by itself, where FOLDER says."""
+        for job in range(1, 5):
+            done = self.run("bash", SCRIPTS / "search.sbatch", "fixed.guest", "3", SLURM_ARRAY_TASK_ID=str(job),
+                            SLURM_ARRAY_TASK_MIN="1", SLURM_ARRAY_TASK_COUNT="4", FOLDER="by jobs")
+            self.expect("job %d" % job, done.returncode == 0, done.stderr)
+        done = self.joined("fixed.guest", "3", "by jobs/")
+        self.expect("jobs", (done.stdout, done.returncode) == self.wanted("fixed.guest", "3"), done.stdout, done.stderr)
 
     def by_slurm(self):
         if not self.has(*SLURM) or os.geteuid():
@@ -181,8 +208,8 @@ class Tester:
         self.expect("Slurm", (done.stdout, done.returncode) == self.wanted("my guest", "2"), done.stdout, done.stderr)
         self.nothing_twice("slurm's", "my guest")
 
-    def joined(self, name, bound):
-        return self.run("sh", "-c", 'cat "$0.$1.20"/*.part | ctxbound join "$0" --bound "$1"', name, bound)
+    def joined(self, name, bound, folder=""):
+        return self.run("sh", "-c", 'cat "$2$0.$1.20"/*.part | ctxbound join "$0" --bound "$1"', name, bound, folder)
 
 
 def main():
@@ -190,7 +217,9 @@ def main():
         raise SystemExit(__doc__)
     with tempfile.TemporaryDirectory() as folder:
         tester = Tester(str(Path(sys.argv[1]).resolve(strict=True)), Path(folder))
+        tester.without_parallel()
         tester.by_make()
+        tester.by_jobs()
         tester.by_slurm()
         # It keeps its parts in folders of the same names.
         for kept in Path(folder).glob("*.20"):

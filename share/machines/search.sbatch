@@ -5,15 +5,15 @@
 #
 #   sbatch search.sbatch GUEST BOUND
 #
-# Of 100 jobs each searches every hundredth prefix, and keeps a file for each in GUEST.BOUND.PARTS/. The same command
-# again takes up what is missing. When all have ended:
+# Of 100 jobs each searches every hundredth prefix, and keeps a file for each in GUEST.BOUND.PARTS/, beside the guest or in the
+# folder that FOLDER says. The same command again takes up what is missing. When all have ended:
 #
 #   cat GUEST.BOUND.PARTS/*.part | ctxbound join GUEST --bound BOUND
 #
 # PARTS says how many parts there are at least.
 set -euo pipefail
 guest=$1 bound=$2 parts=${PARTS:-1000}
-kept=$guest.$bound.$parts
+kept=${FOLDER:-$(dirname -- "$guest")}/$(basename -- "$guest").$bound.$parts
 mkdir -p "$kept"
 ctxbound prefixes "$guest" --at-least "$parts" |
     sed -n "$((SLURM_ARRAY_TASK_ID - SLURM_ARRAY_TASK_MIN + 1))~${SLURM_ARRAY_TASK_COUNT}p" |
