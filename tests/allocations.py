@@ -50,6 +50,16 @@ PROGRAMS = {
     "odd": "var x; thread A { store x q; }",
     # Schedules of more steps than an item has room for.
     "long": "var x; thread A { repeat 50 { store x 1; } } thread B { store x 2; } thread C { store x 3; }",
+    "fails": "thread A { assert 0; }", "twice": "mutex m; thread A { lock m; lock m; }",
+    "seen": "var x; thread A { store x 1; } thread B { load r x; assert r == 0; }",
+    "none": "sem s = 0; thread A { acquire s; }", "bare": "thread A { }", "apart": stores("xyz"),
+    # Every kind of statement.
+    "kinds": "var x; mutex m; cond c; sem s = 0; thread A { lock m; wait c m; load r x; unlock m; assert r; } "
+    "thread B { lock m; store x 1; signal c; unlock m; release s; } "
+    "thread C { repeat 2 { acquire s; set k k + 1; if k == 1 { leave; } else { assert 0; } } broadcast c; }",
+    # A thread that fails where it reads between the first and the last step of another.
+    "three": "var x; var y; thread A { store x 1; store y 1; store x 0; } "
+    "thread B { store x 2; store y 2; store x 0; } thread C { load r x; assert r == 0; store y 3; }",
     # Some rounds of several items.
     "six": stores("abcdef"), "five": stores("abcde"),
     # 288 items are open where bound 1 begins: as many as four workers need to have rounds of their own.
@@ -117,8 +127,26 @@ SIZES = range(8, 4097, 8)
 # A guest and a mode: the walk ends with status 0.
 WALKS = [("race", "1"), ("locks", "1"), ("waits", "0"), ("two", "1"),
          ("two", "reduced"), ("locks", "reduced")]
-# The words of a tool about `race`, and what it says. B's load comes before, between or after A's stores.
-SAID = [("walk", "1", "tried 3 failed 1 stuck 0 deferred 0\n")]
+# The words of a tool about a guest, and what it says: how many schedules are tried, failed, stuck and put off by the
+# bound, or how long is what calls of the libraries answer. Worked out by hand; for `kinds` and `three` by going
+# through all orders of their steps, and what a bound puts off isn't listed for these.
+COUNTED = "tried %d failed %d stuck %d deferred %d\n"
+SAID = [
+    ("walk", guest, mode, COUNTED % counts) for guest, mode, counts in (
+        ("fails", "0", (1, 1, 0, 0)), ("seen", "0", (2, 1, 0, 0)), ("twice", "0", (1, 0, 1, 0)),
+        ("none", "0", (1, 0, 1, 0)), ("bare", "0", (1, 0, 0, 0)),
+        ("updates", "0", (2, 0, 0, 2)), ("updates", "1", (4, 0, 0, 2)), ("updates", "2", (6, 0, 0, 0)),
+        ("updates", "64", (6, 0, 0, 0)), ("updates", "reduced", (4, 0, 0, 0)),
+        ("race", "0", (2, 0, 0, 1)), ("race", "1", (3, 1, 0, 0)),
+        ("locks", "0", (2, 0, 0, 4)), ("locks", "1", (6, 0, 2, 0)), ("locks", "reduced", (3, 0, 1, 0)),
+        ("waits", "0", (2, 0, 1, 0)), ("waits", "reduced", (2, 0, 1, 0)),
+        ("late", "0", (2, 1, 0, 1)), ("late", "1", (3, 2, 0, 0)), ("late", "reduced", (2, 1, 0, 0)),
+        ("apart", "0", (6, 0, 0, 0)), ("apart", "reduced", (1, 0, 0, 0)),
+        ("kinds", "0 unlisted", (4, 0, 1, 0)), ("kinds", "1 unlisted", (11, 0, 2, 0)),
+        ("kinds", "2 unlisted", (23, 0, 4, 0)), ("kinds", "4", (30, 0, 4, 0)),
+        ("three", "1 unlisted", (36, 12, 0, 0)), ("three", "6", (296, 74, 0, 0)))
+] + [("again", "updates", "0,1,0,1", "variables 1 viewed 1 steps 4 spelled 7 traced 103\n"
+      "settled 1 tried 2 joined 4 ends 1\ncopied 4 next 4 seats 3\n")]
 # A guest and a schedule of it.
 AGAIN = [("updates", "0,1,0,1"), ("locks", "0,1"), ("waits", "1,1,1,0,0"), ("late", "1,0,0"), ("five", "0,1,2,3,4"),
          ("long", "0x50,1,2")]
@@ -279,7 +307,8 @@ def main(binary, tools):
                     says_memory_after_lines) for command, name, words, status in QUESTIONS]
         trials += [(sizes, program, [command, os.path.join(folder, name)] + words.split(), library, status)
                    for command, name, words, status in OF_SIZE]
-        trials += [(says, tools, [tool, os.path.join(folder, "race"), word], said) for tool, word, said in SAID]
+        trials += [(says, tools, [tool, os.path.join(folder, guest)] + words.split(), said)
+                   for tool, guest, words, said in SAID]
         trials += [(sweep, tools, ["walk", os.path.join(folder, name), mode], library, 0, says_nothing)
                    for name, mode in WALKS]
         trials += [(sweep, tools, ["again", os.path.join(folder, name), schedule], library, 0,

@@ -74,6 +74,12 @@ GUESTS = {
     "pruned": "var x; var y; thread A { store y 1; load r x; assert r == 0; } thread B { store x 1; }",
     "failing": "var x; var y; var z; thread A { store x 1; assert 0; } thread B { store y 1; } "
     "thread C { store z 1; }",
+    # As many threads as there may be, each as long as one may be; and such threads that wait in turn, two steps a wait.
+    "longest": "var x; " + " ".join("thread %s { repeat 64 { repeat 16 { store x 1; } } }" % name for name in NAMES),
+    "turns": "mutex m; cond c; " + " ".join(
+        "thread %s { lock m; %s repeat 63 { repeat 8 { signal c; wait c m; } } repeat 6 { signal c; wait c m; } %s }" % (
+            name, *(("signal c; wait c m;", "unlock m;") if name == NAMES[-1] else ("wait c m;", "signal c; unlock m;")))
+        for name in NAMES),
     "long": "var x; " + " ".join("thread %s { repeat 100 { repeat 10 { store x 1; } } }" % name for name in "AB"),
 }
 
@@ -268,6 +274,38 @@ def stops(trial):
             trial.check(stopped in ([], [1]) and 1 not in asked, "worker 1 is stopped:", stopped, asked)
             trial.check(last == list(range(len(last))), "items aren't asked about once:", last)
             trial.check((report["verdict"] == "incomplete") == bool(stopped), "stopped once:", report)
+
+
+def cut(cause, tried):
+    """The report of a search of three stores that is cut short."""
+    return {"bound": 0, "cause": cause, "ends": ends(["done", 1, 1, 1])[:tried], "failed": 0, "finished": None,
+            "schedule": None, "stuck": 0, "tried": tried, "verdict": "incomplete"}
+
+
+def gates(trial):
+    """Gates that let so many calls pass, of a search of three stores by two workers that tries one schedule a walk."""
+    whole = clean(3, 6)
+    for limit, passes, wanted in ((0, 0, cut("stopped", 0)), (1, 0, cut("stopped", 0)),
+                                  (0, 1, cut("stopped", 1)), (1, 1, cut("limit", 1)),
+                                  # A stop is looked at before the limit.
+                                  (2, 2, cut("stopped", 2)), (0, 100, whole)):
+        _, report = trial.heard("threads3", 0, 2, limit=limit, does=("pass", passes))
+        trial.check(report == wanted, "limit", limit, "and", passes, "calls pass:", report)
+    # A gate that may stop and never does.
+    trial.check(trial.heard("threads3", 0, 2)[1] == whole, "an open gate")
+    # A search by one worker asks no gate.
+    rounds, report = trial.heard("threads3", 0, 1, does=("pass", 0))
+    trial.check(report == whole and not any(events for events, _ in rounds), "one worker asks:", rounds, report)
+    for _ in range(200):
+        _, report = trial.heard("threads3", 0, 2, does=("worker", 1))
+        trial.check(report == whole or report.get("cause") == "stopped", "worker 1 alone is stopped:", report)
+
+
+def longest(trial):
+    """Schedules of 16,384 and 24,560 steps. Where a thread begins another one might: 15 + 14 + .. items are left."""
+    for guest in ("longest", "turns"):
+        rounds, report = trial.heard(guest, 0, 1, limit=1)
+        trial.check((report["tried"], report["stuck"], rounds[0][1]) == (1, 0, 120), guest, rounds, report)
 
 
 def by_one(rounds):
@@ -516,7 +554,7 @@ def main(program, tools):
         subprocess.run([os.environ.get("CC", "cc"), "-shared", "-fPIC", "-O1", "-o", folder + "/fail_alloc.so",
                         os.path.join(HERE, "fail_alloc.c"), "-ldl"], check=True)
         trial = Trial(os.path.abspath(program), os.path.abspath(tools), folder)
-        for part in (full_rounds, own_rounds, wide, side_by_side, every_size, stops, without_board, hints, limits, bounds, worked,
+        for part in (full_rounds, own_rounds, wide, side_by_side, every_size, stops, gates, longest, without_board, hints, limits, bounds, worked,
                      words, examples):
             part(trial)
     print("%d passed, %d failed" % (trial.passed, trial.failed))

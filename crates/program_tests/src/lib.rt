@@ -1,18 +1,6 @@
-//! Tests of the libraries of states, schedules and replays, and of explanations, which call what is
-//! public: values from outside, which no clause says.
+//! Tests of states, which call what is public: one run of each statement, each step of which is
+//! taken back, and why a thread stops. All else that states do is shown through the program.
 #![tactic(auto)]
 
-#[cfg(test)]
-mod blocked;
-#[cfg(test)]
-mod executions;
-#[cfg(test)]
-mod explanations;
-#[cfg(test)]
-mod in_cause;
-#[cfg(test)]
-mod replays;
-#[cfg(test)]
-mod runs;
 #[cfg(test)]
 mod states;

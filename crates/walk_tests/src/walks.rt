@@ -1,18 +1,16 @@
-mod long;
-mod prefixes;
-mod quotas;
-mod roots;
+//! Walks of items after a prefix and up to a quota, and items that differ.
 
 ghost use Rattle.std.specs.Prelude.{◌≤◌};
 
-use crate::summaries::summary_line;
 use guest_code::lowering::lower;
 use guest_code::program::Program;
 use guest_syntax::parse;
+use prefix_list::Prefixes;
 use std::alloc::{Alloc, Global};
 use std::process::Abort;
 use std::sync::Arc;
 use std::test::*;
+use walk::found::Found;
 use walk::walker::walk;
 use walk::{Item, Mode};
 
@@ -20,76 +18,150 @@ use walk::{Item, Mode};
 const COUNTERS: &str =
     "var x; thread A { load r x; set r r + 1; store x r; } thread B { load r x; set r r + 1; store x r; }";
 
-/// Two threads that take two mutexes in opposite orders.
-const CROSSED: &str =
-    "mutex m; mutex n; thread A { lock m; lock n; unlock n; unlock m; } thread B { lock n; lock m; unlock m; unlock n; }";
-
-/// A thread that waits for a signal, which is lost where the other thread gives it first.
-const CALLED: &str =
-    "mutex m; cond c; thread A { lock m; wait c m; unlock m; } thread B { lock m; signal c; unlock m; }";
-
-/// A failure that a switch after the second thread's end reaches.
-const LATE: &str =
-    "var x; var y; thread A { store y 1; load r x; assert r == 0; } thread B { store x 1; }";
-
-/// Every kind of statement, in three threads. There are 30 complete schedules; a program that goes
-/// through all interleavings of the table of steps counts, by their preemptions: 4 with none, of
-/// which the lost call `1,1,1,1,1,2,2,0,0` is stuck; 7 with one, of which `1,1,1,1,1,0,2,2,0` is
-/// stuck; 12 with two, of which two are stuck.
-const ALL_KINDS: &str =
-    "var x; mutex m; cond c; sem s = 0; thread A { lock m; wait c m; load r x; unlock m; assert r; } thread B { lock m; store x 1; signal c; unlock m; release s; } thread C { repeat 2 { acquire s; set k k + 1; if k == 1 { leave; } else { assert 0; } } broadcast c; }";
-
 /// The program that a text spells.
 pub fn program_of(alloc: Global, text: &str) -> Result<Arc<Program>, Fail> {
     let tree = parse(alloc, text.as_bytes())?;
     Ok(Arc::new(alloc, lower(alloc, &tree)?)?)
 }
 
-/// The item of all schedules of the program that a text spells.
-pub fn root_of(alloc: Global, text: &str) -> Result<Item, Fail> {
-    Ok(Item::root(alloc, program_of(alloc, text)?)?)
-}
-
-// What the walk of an item in a mode, with the greatest quota, finds, as a line of `summary_line`.
-fn walk_line(alloc: Global, item: &Item, mode: Mode) -> Result<String, Fail> {
-    summary_line(alloc, walk(alloc, item, mode, u32::MAX)?.part())
-}
-
-// What the walk of all schedules of a text's program finds in a mode, as a line of `summary_line`.
-fn text_walk_line(alloc: Global, text: &str, mode: Mode) -> Result<String, Fail> {
-    walk_line(alloc, &root_of(alloc, text)?, mode)
-}
-
-// Walks all schedules of a text's program in a mode, up to `quota` of them. Answers how many it
-// tried, how many of them got stuck, how many items it left, and how many prefixes it deferred.
-fn walk_counts(
+// What a walk of a text's program under a prefix finds, with this quota.
+fn found_under(
     alloc: Global,
     text: &str,
+    prefix: &[u8],
     mode: Mode,
     quota: u32,
-) -> Result<(u64, u64, usize, usize), Fail>
+) -> Result<Found, Fail>
     requires { 1 ≤ quota }
 {
-    let root = root_of(alloc, text)?;
-    let walked = walk(alloc, &root, mode, quota)?;
-    let part = walked.part();
-    Ok((
-        part.tried(),
-        part.stuck(),
-        walked.rest_len(),
-        walked.deferred_len(),
-    ))
+    let item = Item::at(alloc, program_of(alloc, text)?, prefix)?;
+    let (_, found) = walk(alloc, &item, mode, quota)?.into_parts();
+    Ok(found)
 }
 
-// Checks that the walk of all schedules of a text's program in a mode finds what `want` says:
-// tried, failed, stuck, whether some are beyond the bound, the first bad schedule, the end views.
+// Appends each prefix of a list to a line, the last one first, and pops it.
+fn push_all(line: &mut String, prefixes: &mut Prefixes) -> Result<(), Fail> {
+    for _ in 0..prefixes.len() {
+        write!(line, "; {:?}", prefixes.last())?;
+        if !prefixes.is_empty() {
+            prefixes.pop();
+        }
+    }
+    Ok(())
+}
+
+// What a walk found, in one line: how many schedules were tried, whether some are beyond the bound,
+// the end views, and the prefixes that the bound defers, the last one first.
+fn found_line(alloc: Global, mut found: Found) -> Result<String, Fail> {
+    let mut line = format!(in alloc; "{} {}", found.part.tried(), found.part.beyond())?;
+    for end in found.part.ends() {
+        write!(line, " {:?} {:?}", end.kind(), end.vars())?;
+    }
+    push_all(&mut line, &mut found.deferred)?;
+    Ok(line)
+}
+
+/// Prefixes of `COUNTERS`, a bound, and what the walk of the schedules after the prefix finds. Of
+/// the three that thread 0 begins 1, 2 and 3 are within bounds 0, 1 and 2. What one row puts off,
+/// another one walks at the next bound; a prefix past its bound is beyond it, and tries nothing.
+const BOUNDED: [(&[u8], u32, &str); 9] = [
+    (&[0], 0, "1 true Done [2]; Some([0, 1])"),
+    (&[0], 1, "2 true Done [1] Done [2]; Some([0, 1, 0])"),
+    (&[0], 2, "3 false Done [1] Done [2]"),
+    (&[0, 1], 0, "0 true"),
+    (&[], 0, "2 true Done [2]; Some([1, 0]); Some([0, 1])"),
+    (&[0, 1], 1, "1 true Done [1]; Some([0, 1, 0])"),
+    (&[1, 0], 1, "1 true Done [1]; Some([1, 0, 1])"),
+    (&[0, 1, 0], 2, "1 false Done [1]"),
+    (&[1, 0, 1], 2, "1 false Done [1]"),
+];
+
+// Checks that the walk of `COUNTERS` under a prefix finds within a bound what `want` says.
 fn check_walk(
     rt: &(impl Abort + Alloc<A = Global>),
-    text: &str,
-    mode: Mode,
+    prefix: &[u8],
+    bound: u32,
     want: &str,
 ) -> Result<(), Fail> {
-    let line = text_walk_line(rt.alloc(), text, mode)?;
-    assert_eq!(rt; line.as_str(), want, "{mode:?}, {text}");
+    let found = found_under(rt.alloc(), COUNTERS, prefix, Mode::Bounded(bound), 256)?;
+    let line = found_line(rt.alloc(), found)?;
+    assert_eq!(rt; line.as_str(), want, "{prefix:?}, {bound}");
+    Ok(())
+}
+
+// Each walk of `BOUNDED` finds, and puts off, what its row says.
+#[test]
+fn what_walks_find(rt: HostRuntime) -> Result<(), Fail> {
+    for (prefix, bound, want) in &BOUNDED {
+        check_walk(&rt, prefix, *bound, want)?;
+    }
+    Ok(())
+}
+
+// How many schedules of `COUNTERS` with at most one preemption a walk of its root tries, and how
+// many it leaves, all of which further walks try.
+fn tried_and_left(alloc: Global, quota: u32) -> Result<(u64, u64), Fail>
+    requires { 1 ≤ quota }
+{
+    let mode = Mode::Bounded(1);
+    let found = found_under(alloc, COUNTERS, &[], mode, quota)?;
+    let mut left = 0_u64;
+    for item in &found.rest {
+        left = left.saturating_add(walk(alloc, item, mode, 256)?.part().tried());
+    }
+    Ok((found.part.tried(), left))
+}
+
+// Of the four schedules one is tried with quota 1, and three are left; with quota 5 all are tried.
+#[test]
+fn quotas_cut_a_walk(rt: HostRuntime) -> Result<(), Fail> {
+    assert_eq!(rt; tried_and_left(rt.alloc(), 1)?, (1, 3));
+    assert_eq!(rt; tried_and_left(rt.alloc(), 5)?, (4, 0));
+    Ok(())
+}
+
+// `an item` where a prefix runs in the program of a thread that takes a mutex twice, or else the
+// reason why it doesn't.
+fn refusal_line(alloc: Global, prefix: &[u8]) -> Result<String, Fail> {
+    match Item::at(
+        alloc,
+        program_of(alloc, "mutex m; thread A { lock m; lock m; }")?,
+        prefix,
+    ) {
+        Ok(_) => Ok(String::from_str(alloc, "an item")?),
+        Err(error) => Ok(format!(in alloc; "{error}")?),
+    }
+}
+
+// There is no thread 1, and thread 0, which locks a mutex twice, may not take its second step.
+#[test]
+fn prefixes_that_do_not_run(rt: HostRuntime) -> Result<(), Fail> {
+    let no_thread = refusal_line(rt.alloc(), &[1])?;
+    assert_eq!(rt; no_thread.as_str(), "schedule P1 NoSuchThread at 0");
+    let not_enabled = refusal_line(rt.alloc(), &[0, 0])?;
+    assert_eq!(rt; not_enabled.as_str(), "schedule P2 NotEnabled at 1");
+    Ok(())
+}
+
+/// Two threads whose steps are independent.
+const READERS: &str = "var x; thread A { load r x; } thread B { load r x; }";
+
+// Walks the first schedule of `READERS` with sleep sets. Answers how many items the walk leaves,
+// and whether one of these equals the item that `Item::at` makes of its prefix, at which no thread
+// sleeps.
+fn count_left_and_find_awake(alloc: Global) -> Result<(usize, bool), Fail> {
+    let found = found_under(alloc, READERS, &[], Mode::Reduced, 1)?;
+    let mut some = false;
+    for item in &found.rest {
+        some |= item.equals(&Item::at(alloc, program_of(alloc, READERS)?, item.prefix())?);
+    }
+    Ok((found.rest.len(), some))
+}
+
+// Two readers, walked up to one schedule with sleep sets: one item is left, at which some thread
+// sleeps.
+#[test]
+fn items_differ_by_who_sleeps(rt: HostRuntime) -> Result<(), Fail> {
+    assert_eq!(rt; count_left_and_find_awake(rt.alloc())?, (1, false));
     Ok(())
 }
