@@ -302,7 +302,43 @@ LONGEST = "var x; thread A { repeat 64 { store x 1; store x 2; store x 3; store 
 TWO_WAITERS = ("mutex m; cond c; thread A { lock m; wait c m; unlock m; } thread B { lock m; wait c m; unlock m; } "
                "thread C { lock m; broadcast c; unlock m; }")
 SIXTEEN = "ABCDEFGHIJKLMNOP"
+# A thread of copies of copies.
+COPIES = "thread A { " + "repeat 100 { " * 32 + "%s" + " }" * 33
 NO_STEPS = "preemptions 0\nkind done\nvars\n"
+# Texts by what is wrong with them first, each with its place. Those in tests/rows.txt and tests/check.py are other ones.
+FIRST_FAULTS = {
+    "syntax S1 NotAscii": [
+        ("# \u00c3", "1:3"), ("\ufeffvar x;", "1:1"), ("var \u00c3", "1:5"), ("var x\u00c3;", "1:6")],
+    "syntax S2 BadChar": [
+        ("var x;\r\n\t@", "2:2"), ("var\fx;", "1:4")],
+    "syntax S3 Expected": [
+        ("thread A { assert 0; # no end\n ", "2:2"), ("mutex m", "1:8"), ("thread A { store x 1 }", "1:22"),
+        ("sem s 1;", "1:7"), ("thread A { add r x }", "1:20"), ("thread A { add r x 1 2; }", "1:22"),
+        ("thread A { cas r x 0 1 2; }", "1:24"), ("cond lock;", "1:6"), ("cond 12ab;", "1:6"),
+        ("cond 9223372036854775808;", "1:6"), ("var add;", "1:5"), ("sem cas = 1;", "1:5"),
+        ("thread A { add r 1 2; }", "1:18"), ("sem s = x;", "1:9"), ("sem s = -1;", "1:9"),
+        ("thread A { repeat x { } }", "1:19"), ("thread A { repeat   00 { } }", "1:21"), ("var x = y;", "1:9"),
+        ("var x = -y;", "1:10"), ("thread A { store x }", "1:20"), ("thread A { cas r x 0; }", "1:21"),
+        ("thread A { var }", "1:12"), ("thread A { else { } }", "1:12"), ("thread A { adds r x 1; }", "1:12"),
+        ("thread A { 1 }", "1:12"), ("thread A { ; }", "1:12"), ("var x y;", "1:7"), ("var x == 1;", "1:7"),
+        ("lock m;", "1:1"), ("thread A { } var x;", "1:14"), ("thread A { } else { }", "1:14"), ("va\u00c3", "1:1"),
+        ("lock \u00c3", "1:1")],
+    "syntax S4 NumberTooBig": [
+        ("thread A { cas r x 0 9223372036854775808; }", "1:22")],
+    "check C1 Duplicate": [
+        ("var x; thread x { }", "1:15"), ("mutex B; thread A { lock B; } thread B { }", "1:38"),
+        ("thread A { } thread A { }", "1:21"), ("mutex m; mutex m;", "1:16")],
+    "check C3 WrongKind": [
+        ("thread A { lock B; } thread B { }", "1:17"), ("var x; thread A { load x x; }", "1:24"),
+        ("var x; thread A { add x x 1; }", "1:23"), ("var x; thread A { add r x x; }", "1:27"),
+        ("mutex m; thread A { cas r m 0 1; }", "1:27"), ("var x; thread A { cas r x x B; } thread B { }", "1:27"),
+        ("var x; thread A { cas r x q B; } thread B { }", "1:29")],
+    "check C7 LeaveOutside": [
+        ("thread A { leave; lock m; }", "1:12"),
+        ("thread A { repeat 100 { repeat 11 { assert 1; } } } thread B { leave; }", "1:64")],
+    "check C2 Unknown": [
+        ("thread A { add r x 1; }", "1:18")],
+}
 # How the report of a search begins that is cut short, up to the number of schedules that were tried.
 CUT_SHORT = ('{"bound":0,"cause":"limit","ends":[{"kind":"done","vars":[1,1,1,1,1,1,1,1]}],"failed":0,'
              '"finished":null,"schedule":null,"stuck":0,"tried":')
@@ -325,6 +361,14 @@ def threads(names, statements=""):
     return "".join("thread %s { %s} " % (name, statements) for name in names)
 
 
+def fullest():
+    """A text with as many objects of each kind, threads, locals and instructions as there may be."""
+    text = "".join("var v%d = %d; " % (n, n) for n in range(16))
+    text += "".join("mutex m%d; cond c%d; sem s%d = %d; " % (n, n, n, n) for n in range(8))
+    loads = "".join("load r%d v%d; " % (n, n) for n in range(16))
+    return text + threads(["t%d" % n for n in range(16)], loads + "repeat 63 { repeat 16 { store v15 r15; } } ")
+
+
 def replays_at_limits():
     """Texts and schedules at their limits and past them: what is on standard input, the schedule, and what is
     written on both streams and the status."""
@@ -334,7 +378,28 @@ def replays_at_limits():
     steps = "".join("%d A store x %d\n" % (step, step % 4 + 1) for step in range(256))
     yield LONGEST, ",".join(["0"] * 256), (steps + "preemptions 0\nkind done\nvars x=4\n", "", 0)
     yield LONGEST, ",".join(["0"] * 4097), ("", "ctxbound: schedule P2 NotEnabled at 256\n", 2)
-    yield "thread A { " + "if 1 { " * 33, "x", ("", "ctxbound: syntax S6 TooDeep at 1:241\n", 2)
+    # The brace of a 33rd block is too deep, closed or not; another token there is refused since it is no brace.
+    for text, line in (("if 1 { " * 33, "S6 TooDeep"), ("if 1 { " * 33 + "} " * 34, "S6 TooDeep"),
+                       ("if 1 { " * 32 + "if 1 x", "S3 Expected")):
+        yield "thread A { " + text, "x", ("", "ctxbound: syntax %s at 1:241\n" % line, 2)
+    yield "thread A { " + "if 1 { " * 32 + "} " * 33, "-", (NO_STEPS, "", 0)
+    # Copies of nothing take no time; those of one statement are too many.
+    yield COPIES % "", "-", (NO_STEPS, "", 0)
+    yield COPIES % "assert 1;", "-", ("", "ctxbound: check C6 CodeTooLong in thread 0\n", 2)
+    yield ("var x;\nthread A {\n" + "".join("add r x %d;\n" % n for n in range(4650)) + "}").ljust(65536), "-", (
+        "", "ctxbound: check C6 CodeTooLong in thread 0\n", 2)
+    yield fullest(), "-", ("preemptions 0\nkind none\nvars %s\n" % " ".join("v%d=%d" % (n, n) for n in range(16)), "", 0)
+    yield ("var x = 9223372036854775807; var y = -9223372036854775807; thread A { }", "-", (
+        "preemptions 0\nkind done\nvars x=9223372036854775807 y=-9223372036854775807\n", "", 0))
+    for fault, texts in FIRST_FAULTS.items():
+        for text, place in texts:
+            yield text, "!", ("", "ctxbound: %s at %s\n" % (fault, place), 2)
+    named = "".join("var %s; " % name for name in "abcdefghijklmnop")
+    yield named + "var a; thread A { }", "!", ("", "ctxbound: check C1 Duplicate at 1:117\n", 2)
+    named = "".join("set %s 0; " % name for name in "abcdefghijklmnop")
+    yield "thread A { %sset a 0; repeat 1 { if r { } } }" % named, "!", ("", "ctxbound: check C5 TooMany at 1:179\n", 2)
+    yield "thread A { } thread B { repeat 100 { repeat 11 { assert 1; } } }", "!", (
+        "", "ctxbound: check C6 CodeTooLong in thread 1\n", 2)
     yield b"# \xc3", "x", ("", "ctxbound: syntax S1 NotAscii at 1:3\n", 2)
     yield threads(SIXTEEN[:9]), "-", (NO_STEPS, "", 0)
     yield threads(SIXTEEN), "-", (NO_STEPS, "", 0)
@@ -422,6 +487,7 @@ class Checker:
         for text, schedule, wanted in replays_at_limits():
             given = text if isinstance(text, bytes) else text.encode()
             self.compare(["replay", "-", schedule], self.run(["replay", "-", schedule], given), wanted)
+        self.compare(["check", "-"], self.run(["check", "-"], (COPIES % "").encode()), ("", "", 0))
         # Eight threads of one store each: more schedules than a round tries.
         text = "".join("var %s; " % name.lower() for name in SIXTEEN[:8])
         text += "".join(threads(name, "store %s 1; " % name.lower()) for name in SIXTEEN[:8])

@@ -35,6 +35,32 @@ COUNTS = ((1, 1), (7, 1), (64, 8), (1000, 60))
 BOUNDS = (2, 1, 0)
 LIMIT = 20000
 MOST_PREFIXES = 150
+# The line of a part, and why it is that of none where something in it is something else.
+LINE = ('{"beyond":true,"bound":1,"ends":[{"kind":"done","vars":[50,-7]},{"kind":"stuck","vars":[]}],"failed":0,'
+        '"guest":{"bytes":3,"sha256":"ba7816bf8f01cfea414140de5dae2223b00361a396177a9cb410ff61f20015ad"},'
+        '"schedule":"0x2,1","stuck":2,"tried":6,"under":"0"}')
+NO_LINES = {
+    "no JSON": [("{", ""), ('"tried":6', '"tried":6,'), ('"tried":6', '"tried":06'), ('"tried":6', '"tried":6}')],
+    "no key beyond": [('"beyond":true,', "")],
+    "no key under": [('"under":"0"', '"UNDER":"0"')],
+    "beyond is not true or false": [("true", "1")],
+    "bound is not a bound": [('"bound":1', '"bound":4294967296')],
+    "bound is not a count": [('"bound":1', '"bound":"1"')],
+    "tried is not a count": [
+        ('"tried":6', '"tried":-6'), ('"tried":6', '"tried":6.5'), ('"tried":6', '"tried":18446744073709551616')],
+    "cause is not limit or stopped": [('"failed"', '"cause":"late","failed"')],
+    "schedule is not a schedule": [('"0x2,1"', '"0x2,"')],
+    "under is not a schedule": [
+        ('"under":"0"', '"under":"256"'), ('"under":"0"', '"under":"0x32769"'), ('"under":"0"', '"under":null')],
+    "sha256 is not 64 hex digits": [("15ad", "15a"), ("15ad", "15ag")],
+    "no key bytes": [('"bytes":3,', "")],
+    "kind is not done, failed or stuck": [('stuck","vars"', 'late","vars"')],
+    "vars is not a list of values": [("-7", "9223372036854775808")],
+    "ends, failed, stuck and schedule do not fit one another": [
+        ('"stuck","vars":[]', '"done","vars":[]'), ('"0x2,1"', "null")],
+    "a key or a spelling that no part has": [
+        ('"0x2,1"', '"0,0,1"'), ("15ad", "15AD"), ('"vars":[]', '"vars":[],"x":0')],
+}
 Complete = namedtuple("Complete", "schedule preemptions kind values")
 # A search: the command, its words, and those of `prefixes` and `join` for it.
 Search = namedtuple("Search", "command words listed joined")
@@ -232,6 +258,17 @@ class Tester:
             if len(text) < len(line):
                 self.expect("a line that ends at %d is taken" % at, is_refused, text, got)
 
+    def no_lines(self, path, search):
+        """Lines and texts that are refused by their first bad line, and what there is where none is bad."""
+        for why, changes in NO_LINES.items():
+            for old, new in changes:
+                self.refused("%s is %s" % (old, new), path, search, [LINE.replace(old, new, 1).encode()], "-:1: " + why, 2)
+        for text, told, status in (
+                ("", "parts: nothing under -", 3), ("\n \n\t\r\n", "parts: nothing under -", 3),
+                ("%s", "-: another guest under 0", 2), ("%s\n\n%s\r\n", "-: another guest under 0", 2),
+                ("\n%s\n{}\nx", "-:3: no key under", 2), ("%s %s", "-:1: no JSON", 2)):
+            self.refused("lines as %r" % text, path, search, [text.replace("%s", LINE).encode()], told, status)
+
     # ---- words
 
     def words(self, path):
@@ -302,6 +339,7 @@ def main():
         first, fixed = ROOT / "examples" / "first.guest", ROOT / "examples" / "lost_update_fixed.guest"
         tester.missing(fixed, search_of(2))
         tester.of_another(fixed, search_of(2), first)
+        tester.no_lines(first, search_of(2))
         for bound in (2, None):
             tester.hostile(first, search_of(bound))
             tester.files(first, search_of(bound))

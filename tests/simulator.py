@@ -736,56 +736,56 @@ SHAPES = [
      "thread D { broadcast c; }", "2x2,0x2,1x2,3,1"),
     # A signal woke one of two, a thread ended with a mutex, and nobody releases.
     ("var a; mutex m; cond c; sem s = 0; var b; thread Sleeper { acquire s; } thread Called { lock m; wait c m; "
-     "unlock m; } thread Left { lock m; wait c m; unlock m; } thread Caller { lock m; signal c; unlock m; acquire "
-     "s; } thread Owner { load r a; store b r; lock m; }", "1x2,2x2,3x3,4x3"),
+     "unlock m; } thread Left { lock m; wait c m; unlock m; } thread Caller { lock m; signal c; unlock m; "
+     "acquire s; } thread Owner { load r a; store b r; lock m; }", "1x2,2x2,3x3,4x3"),
     # All releases were carried out, and one is wanted more.
     ("sem slots = 2; sem done = 0; var n; thread W1 { acquire slots; add o n 1; release done; } thread W2 { "
-     "acquire slots; add o n 1; release slots; release done; } thread W3 { acquire slots; add o n 1; release "
-     "slots; release done; } thread Main { repeat 4 { acquire done; } load t n; assert t == 3; }", "0x3,1x4,2x4,3x3"),
+     "acquire slots; add o n 1; release slots; release done; } thread W3 { acquire slots; add o n 1; release slots; "
+     "release done; } thread Main { repeat 4 { acquire done; } load t n; assert t == 3; }", "0x3,1x4,2x4,3x3"),
     # Two that would broadcast wait for each other.
-    ("mutex g; cond changed; var readers; var pending; thread Reader { lock g; repeat 3 { load p pending; if p == "
-     "0 { leave; } wait changed g; } assert p == 0; add old readers 1; unlock g; lock g; repeat 3 { load p "
-     "pending; if p == 0 { leave; } wait changed g; } assert p == 0; add old readers 1; unlock g; lock g; add old "
-     "readers -1; broadcast changed; unlock g; lock g; add old readers -1; broadcast changed; unlock g; } thread "
-     "Writer { lock g; store pending 1; repeat 5 { load n readers; if n == 0 { leave; } wait changed g; } assert n "
-     "== 0; unlock g; lock g; store pending 0; broadcast changed; unlock g; }", "0x4,1x4,0x3"),
+    ("mutex g; cond changed; var readers; var pending; thread Reader { lock g; repeat 3 { load p pending; "
+     "if p == 0 { leave; } wait changed g; } assert p == 0; add old readers 1; unlock g; lock g; repeat 3 { "
+     "load p pending; if p == 0 { leave; } wait changed g; } assert p == 0; add old readers 1; unlock g; lock g; "
+     "add old readers -1; broadcast changed; unlock g; lock g; add old readers -1; broadcast changed; unlock g; } "
+     "thread Writer { lock g; store pending 1; repeat 5 { load n readers; if n == 0 { leave; } wait changed g; } "
+     "assert n == 0; unlock g; lock g; store pending 0; broadcast changed; unlock g; }", "0x4,1x4,0x3"),
     # Each release was passed by.
-    ("var permits; var head; var ws_0 = 1; var ws_1 = 1; sem park_1 = 0; sem park_2 = 0; thread Acquire1 { acquire "
-     "park_1; repeat 3 { load s permits; set left s - 1; cas ok permits s left; if ok { leave; } } assert ok; "
-     "store head 1; if left > 0 { load w ws_1; if w { cas r ws_1 1 0; release park_2; } } } thread Acquire2 { "
-     "acquire park_2; load s permits; set left s - 1; cas ok permits s left; store head 2; } thread Release1 { add "
-     "old permits 1; load h head; if h == 0 { load w ws_0; if w { cas r ws_0 1 0; release park_1; } } if h == 1 { "
-     "load w ws_1; if w { cas r ws_1 1 0; release park_2; } } } thread Release2 { add old permits 1; load h head; "
-     "if h == 0 { load w ws_0; if w { cas r ws_0 1 0; release park_1; } } if h == 1 { load w ws_1; if w { cas r "
-     "ws_1 1 0; release park_2; } } }", "2x5,0x3,3x3,0"),
+    ("var permits; var head; var ws_0 = 1; var ws_1 = 1; sem park_1 = 0; sem park_2 = 0; thread Acquire1 { "
+     "acquire park_1; repeat 3 { load s permits; set left s - 1; cas ok permits s left; if ok { leave; } } "
+     "assert ok; store head 1; if left > 0 { load w ws_1; if w { cas r ws_1 1 0; release park_2; } } } "
+     "thread Acquire2 { acquire park_2; load s permits; set left s - 1; cas ok permits s left; store head 2; } "
+     "thread Release1 { add old permits 1; load h head; if h == 0 { load w ws_0; if w { cas r ws_0 1 0; "
+     "release park_1; } } if h == 1 { load w ws_1; if w { cas r ws_1 1 0; release park_2; } } } thread Release2 { "
+     "add old permits 1; load h head; if h == 0 { load w ws_0; if w { cas r ws_0 1 0; release park_1; } } "
+     "if h == 1 { load w ws_1; if w { cas r ws_1 1 0; release park_2; } } }", "2x5,0x3,3x3,0"),
     # The owner of a mutex failed.
-    ("mutex m; sem s = 0; var x; thread A { lock m; load r x; assert r == 1; unlock m; } thread B { lock m; store "
-     "x 1; unlock m; } thread C { load r x; if r { release s; } acquire s; release s; }", "0x2,2"),
+    ("mutex m; sem s = 0; var x; thread A { lock m; load r x; assert r == 1; unlock m; } thread B { lock m; "
+     "store x 1; unlock m; } thread C { load r x; if r { release s; } acquire s; release s; }", "0x2,2"),
     # A write between two uses of the variable by another thread, which overwrites what was written.
     ("var x; var y; thread A { load r x; store x r; load q x; assert q == 1; } thread B { store y 1; store x 1; }", "0,1x2,0x2"),
     # The owner of a mutex ends, having passed the unlock by.
     ("var x; var y; mutex m; thread A { store y 1; lock m; load c x; if c { unlock m; } } thread B { lock m; }", "0x3"),
     # A semaphore whose release is passed by.
-    ("var x; var y; sem s = 1; thread A { acquire s; load c x; if c { release s; } } thread B { store y 1; acquire "
-     "s; }", "0x2,1"),
+    ("var x; var y; sem s = 1; thread A { acquire s; load c x; if c { release s; } } thread B { store y 1; "
+     "acquire s; }", "0x2,1"),
     # An unlock of a mutex that another thread owns; what comes after it doesn't count.
     ("var x; mutex m; thread A { unlock m; } thread B { lock m; store x 1; unlock m; }", "1x2,0,1"),
     # The edit of the mode after it was read.
     ("var mode = 1; var turntable; var edited; var current; thread Keyboard { store turntable 1; store mode 1; "
-     "store mode 2; store turntable 2; store edited 1; } thread Treat { load m mode; if m == 1 { store current "
-     "100; } else { store current 1; } load e edited; if e { load m mode; if m == 1 { store current 100; } else { "
+     "store mode 2; store turntable 2; store edited 1; } thread Treat { load m mode; if m == 1 { store current 100; "
+     "} else { store current 1; } load e edited; if e { load m mode; if m == 1 { store current 100; } else { "
      "store current 1; } } load t turntable; load c current; if t == 2 { assert c == 1; } }", "1x3,0x5,1x2"),
     # A reader that is overlooked by one grace period and taken for a new one by the next.
-    ("var gp = 1; var reader; var current = 1; var freed; thread Reader { load g gp; store reader g; load p "
-     "current; load f freed; assert f < p; store reader 0; } thread Updater { store current 2; store gp 3; repeat "
-     "2 { load r reader; set quiet r == 0; if r == 3 { set quiet 1; } if quiet { leave; } } if quiet { store freed "
-     "1; store current 3; store gp 1; repeat 2 { load r reader; set quiet r == 0; if r == 1 { set quiet 1; } if "
-     "quiet { leave; } } if quiet { store freed 2; } } }", "0,1x3,0x2,1x5,0"),
+    ("var gp = 1; var reader; var current = 1; var freed; thread Reader { load g gp; store reader g; "
+     "load p current; load f freed; assert f < p; store reader 0; } thread Updater { store current 2; store gp 3; "
+     "repeat 2 { load r reader; set quiet r == 0; if r == 3 { set quiet 1; } if quiet { leave; } } if quiet { "
+     "store freed 1; store current 3; store gp 1; repeat 2 { load r reader; set quiet r == 0; if r == 1 { "
+     "set quiet 1; } if quiet { leave; } } if quiet { store freed 2; } } }", "0,1x3,0x2,1x5,0"),
     # A page that is thrown away between a write fault and the next one.
-    ("var pte; var written; thread Write { set want_write 1; repeat 5 { load p pte; set found 0; if p != 0 { if "
-     "want_write == 0 { set found 1; } } if found { leave; } if want_write { cas copied pte 0 2; if copied == 0 { "
-     "cas reused pte 2 2; if reused { set want_write 0; } } } else { cas mapped pte 0 1; } } if found { store "
-     "written p; assert p == 2; } } thread Madvise { store pte 0; }", "0x5,1,0x4"),
+    ("var pte; var written; thread Write { set want_write 1; repeat 5 { load p pte; set found 0; if p != 0 { "
+     "if want_write == 0 { set found 1; } } if found { leave; } if want_write { cas copied pte 0 2; "
+     "if copied == 0 { cas reused pte 2 2; if reused { set want_write 0; } } } else { cas mapped pte 0 1; } } "
+     "if found { store written p; assert p == 2; } } thread Madvise { store pte 0; }", "0x5,1,0x4"),
 ]
 
 # ---- programs and schedules made at random

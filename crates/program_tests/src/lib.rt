@@ -1,6 +1,9 @@
-//! Tests of states, which call what is public: one run of each statement, each step of which is
-//! taken back, and why a thread stops. All else that states do is shown through the program.
+//! Tests of states and of places in texts, which call what is public: one run of each statement,
+//! each step of which is taken back, why a thread stops, and where instructions come from. All else
+//! is shown through the program.
 #![tactic(auto)]
 
+#[cfg(test)]
+mod places;
 #[cfg(test)]
 mod states;

@@ -1,4 +1,4 @@
-//! Searches of which a gate keeps a worker waiting: what no clause says of several workers.
+//! Searches of which a gate keeps a worker waiting, and one by one worker that ends at its limit.
 
 ghost use Rattle.std.specs.Prelude.{◌≤◌};
 
@@ -7,7 +7,7 @@ use guest_code::program::Program;
 use guest_syntax::parse;
 use items::item::Item;
 use items::mode::Mode;
-use runner::{Gate, Options, Search, explore_text, report_text};
+use runner::{Gate, Options, Search, explore_text, explore_text_alone, report_text};
 use std::alloc::{Alloc, Global};
 use std::process::Abort;
 use std::sync::atomic::{AtomicU64, Ordering};
@@ -151,4 +151,23 @@ fn items_are_not_shared_out_beforehand(rt: HostRuntime) -> Result<(), Fail> {
     let walks = count_first_walks(rt.alloc())?;
     assert!(&rt; walks >= 7);
     check_holding(&rt, FOUR, &HoldingGate::new(walks), walks, FOUR_CLEAN)
+}
+
+/// The report of a search of `THREE` that ends at a limit of one schedule.
+const LIMITED_TO_ONE: &str =
+    r#"{"bound":0,"cause":"limit","ends":[{"kind":"done","vars":[1,1,1]}],"failed":0,"finished":null,"schedule":null,"stuck":0,"tried":1,"verdict":"incomplete"}"#;
+
+// A search of `THREE` by one worker, one schedule a walk, ends at a limit of one schedule.
+#[test]
+fn one_worker_ends_at_the_limit(rt: HostRuntime) -> Result<(), Fail> {
+    let options = Options {
+        limit: Some(1),
+        ..ONE_BY_ONE
+    };
+    let Ok(report) = explore_text_alone(rt.alloc(), THREE.as_bytes(), options) else {
+        return Err(Fail::new("the search has no report"));
+    };
+    let text = report_text(rt.alloc(), &report)?;
+    assert_eq!(rt; text.as_slice(), LIMITED_TO_ONE.as_bytes());
+    Ok(())
 }
