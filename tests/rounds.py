@@ -77,8 +77,8 @@ GUESTS = {
     # As many threads as there may be, each as long as one may be; and such threads that wait in turn, two steps a wait.
     "longest": "var x; " + " ".join("thread %s { repeat 64 { repeat 16 { store x 1; } } }" % name for name in NAMES),
     "turns": "mutex m; cond c; " + " ".join(
-        "thread %s { lock m; %s repeat 63 { repeat 8 { signal c; wait c m; } } repeat 6 { signal c; wait c m; } %s }" % (
-            name, *(("signal c; wait c m;", "unlock m;") if name == NAMES[-1] else ("wait c m;", "signal c; unlock m;")))
+        "thread %s { lock m; %s repeat 63 { repeat 8 { signal c; wait c m; } } repeat 6 { signal c; wait c m; } %s }"
+        % ((name, "signal c; wait c m;", "unlock m;") if name == NAMES[-1] else (name, "wait c m;", "signal c; unlock m;"))
         for name in NAMES),
     "long": "var x; " + " ".join("thread %s { repeat 100 { repeat 10 { store x 1; } } }" % name for name in "AB"),
 }
@@ -554,8 +554,8 @@ def main(program, tools):
         subprocess.run([os.environ.get("CC", "cc"), "-shared", "-fPIC", "-O1", "-o", folder + "/fail_alloc.so",
                         os.path.join(HERE, "fail_alloc.c"), "-ldl"], check=True)
         trial = Trial(os.path.abspath(program), os.path.abspath(tools), folder)
-        for part in (full_rounds, own_rounds, wide, side_by_side, every_size, stops, gates, longest, without_board, hints, limits, bounds, worked,
-                     words, examples):
+        for part in (full_rounds, own_rounds, wide, side_by_side, every_size, stops, gates, longest, without_board, hints,
+                     limits, bounds, worked, words, examples):
             part(trial)
     print("%d passed, %d failed" % (trial.passed, trial.failed))
     return 1 if trial.failed else 0

@@ -762,7 +762,8 @@ SHAPES = [
     ("mutex m; sem s = 0; var x; thread A { lock m; load r x; assert r == 1; unlock m; } thread B { lock m; "
      "store x 1; unlock m; } thread C { load r x; if r { release s; } acquire s; release s; }", "0x2,2"),
     # A write between two uses of the variable by another thread, which overwrites what was written.
-    ("var x; var y; thread A { load r x; store x r; load q x; assert q == 1; } thread B { store y 1; store x 1; }", "0,1x2,0x2"),
+    ("var x; var y; thread A { load r x; store x r; load q x; assert q == 1; } "
+     "thread B { store y 1; store x 1; }", "0,1x2,0x2"),
     # The owner of a mutex ends, having passed the unlock by.
     ("var x; var y; mutex m; thread A { store y 1; lock m; load c x; if c { unlock m; } } thread B { lock m; }", "0x3"),
     # A semaphore whose release is passed by.

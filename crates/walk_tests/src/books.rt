@@ -103,11 +103,12 @@ const ONE_BY_ONE: [Settlement; 3] = [
     ),
 ];
 
-/// Walks of another program, of another mode, and of an item that isn't open; then the root of a
+/// Walks of another program, of two other modes, and of an item that isn't open; then the root of a
 /// program that is equal, twice.
-const OF_WRITERS: [Settlement; 5] = [
+const OF_WRITERS: [Settlement; 6] = [
     (COUNTERS, &[], FIRST, 9, "book B2 Stranger"),
     (WRITERS, &[], Mode::Reduced, 9, "book B2 Stranger"),
+    (WRITERS, &[], Mode::Bounded(1), 9, "book B2 Stranger"),
     (WRITERS, &[1], FIRST, 9, "book B1 NotOpen"),
     (WRITERS, &[], FIRST, 9, "6 false"),
     (WRITERS, &[], FIRST, 9, "book B1 NotOpen"),
