@@ -11,20 +11,16 @@ and with a request refused do the same, or say nothing and end with status 1 or 
 of the libraries again that was refused: it must say the same, or nothing with status 2. A run that doesn't
 end in time fails its sweep. The sweep of a run ends at the first number that is past its last request; since
 runs of several threads have more requests or fewer, it ends only after some such numbers in a row. Several
-workers must make a thread for all but one of them, once for all rounds of a bound. The last line is
-`N passed, M failed`.
+workers must make a thread for all but one of them, once for all rounds of a bound.
 """
 import json
 import os
-import subprocess
-import sys
-import tempfile
 
-HERE = os.path.dirname(os.path.abspath(__file__))
+from program import Tester, refusing, run, run_refused
+
 MOST = 5000
 # So many runs in a row without a refusal end a sweep.
 QUIET = 5
-SECONDS = 60
 
 
 def stores(names):
@@ -152,45 +148,27 @@ AGAIN = [("updates", "0,1,0,1"), ("locks", "0,1"), ("waits", "1,1,1,0,0"), ("lat
          ("long", "0x50,1,2")]
 
 
-def run(binary, words, library=None, refused=None):
-    """What a run writes and its status, and what the library told of it, which is told what to refuse. The
-    library is named from its folder, since no blank may be in what is preloaded."""
-    env = dict(os.environ)
-    told, tells = os.pipe()
-    if library:
-        env.update(refused or {}, LD_PRELOAD="./" + os.path.basename(library), TOLD_FD=str(tells))
-    try:
-        done = subprocess.run([binary] + words, env=env, capture_output=True, timeout=SECONDS,
-                              pass_fds=[tells], cwd=library and os.path.dirname(library))
-        answer = done.stdout, done.stderr, done.returncode
-    except subprocess.TimeoutExpired:
-        answer = b"", b"no end after %d seconds" % SECONDS, None
-    os.close(tells)
-    with os.fdopen(told, "rb") as file:
-        return answer, file.read()
-
-
 def says_memory(answer, _=None):
-    return answer == (b"", b"ctxbound: memory\n", 4)
+    return answer == ("", "ctxbound: memory\n", 4)
 
 
 def says_memory_after_lines(answer, ample):
-    lines = ample[0].splitlines(keepends=True)
-    return says_memory((b"",) + answer[1:]) and answer[0].splitlines(keepends=True) == lines[:answer[0].count(b"\n")]
+    lines = ample.out.splitlines(keepends=True)
+    return says_memory(("", *answer[1:])) and answer.out.splitlines(keepends=True) == lines[:answer.out.count("\n")]
 
 
 def says_nothing(answer, _):
-    return answer in [(b"", b"", 1), (b"", b"", 2)]
+    return answer in [("", "", 1), ("", "", 2)]
 
 
 def says_nothing_of_words(answer, _):
-    return answer == (b"", b"", 2)
+    return answer == ("", "", 2)
 
 
 def entries_of(text):
     """What a suite says of each file: its name, and the rest as words or members; the head of a table counts as
     one, and the line with its totals is left out."""
-    lines = text.decode().splitlines()
+    lines = text.splitlines()
     if lines and lines[0].startswith("{"):
         return [(entry.pop("file"), entry) for entry in map(json.loads, lines)]
     column = lines[0].index("verdict") if lines else 0
@@ -207,123 +185,109 @@ def says_memory_of_a_file(answer, ample):
     of the others what it says with ample memory. The totals of a table count what wasn't read."""
     if says_memory_after_lines(answer, ample):
         return True
-    told, wanted = dict(entries_of(answer[0])), dict(entries_of(ample[0]))
+    told, wanted = dict(entries_of(answer.out)), dict(entries_of(ample.out))
     changed = [name for name in wanted if told.get(name) != wanted[name]]
     is_file = list(told) == list(wanted) and [is_out_of_memory(told[name]) for name in changed] == [True]
     is_folder = is_out_of_memory(told.get(os.path.dirname(list(wanted)[-1])))
-    totals = answer[0].decode().splitlines()[-1]
+    totals = answer.out.splitlines()[-1]
     is_counted = totals.startswith("{") or totals.endswith(" 1 not read")
-    return answer[1:] == (b"", 4) and (is_file or is_folder) and is_counted
+    return answer[1:] == ("", 4) and (is_file or is_folder) and is_counted
 
 
-def sweep(binary, words, library, status, is_refusal, lasting=False):
-    """How many requests were refused in turn, and a line that says what went wrong, or None."""
-    ample, _ = run(binary, words)
-    if ample[2] != status or ample[0] + ample[1] == b"":
-        return 0, "%s, with ample memory: %r" % (" ".join(words), ample)
-    refusals = quiet = 0
-    for fail_at in range(1, MOST):
-        answer, told = run(binary, words, library, {"FAIL_AT": str(fail_at), **({"FAIL_ON": "1"} if lasting else {})})
-        was_refused = b"r" in told
-        if answer != ample and not (was_refused and is_refusal(answer, ample)):
-            return refusals, "%s, request %d refused: %r" % (" ".join(words), fail_at, answer)
-        refusals += was_refused
-        quiet = 0 if was_refused else quiet + 1
-        if quiet == QUIET:
-            return refusals, None
-    return refusals, "%s: no end after %d requests" % (" ".join(words), MOST)
-
-
-def sizes(binary, words, library, status):
-    """The same where each request for so many bytes is refused, for one size after the other: what walks or
-    settling need and never get must end the search, also where all else can be had."""
-    ample, _ = run(binary, words)
-    if ample[2] != status:
-        return 0, "%s, with ample memory: %r" % (" ".join(words), ample)
+class Allocations(Tester):
+    texts = PROGRAMS
     refusals = 0
-    for size in SIZES:
-        answer, told = run(binary, words, library, {"FAIL_SIZE": str(size)})
-        was_refused = b"r" in told
-        if answer != ample and not (was_refused and says_memory(answer)):
-            return refusals, "%s, each request for %d bytes refused: %r" % (" ".join(words), size, answer)
-        refusals += was_refused
-    return refusals, None
 
+    def refused(self, words, **refused):
+        """The answer of a run that is refused something, whether it was, and how many threads it made."""
+        answer, told = run_refused(words, self.folder, self.seconds, **refused)
+        return answer, "r" in told, told.count("t")
 
-def suite_of(folder, names):
-    """A folder with these guests, each as `NAME.guest`."""
-    suite = os.path.join(folder, "_".join(names.split()))
-    os.mkdir(suite)
-    for name in names.split():
-        with open(os.path.join(suite, name + ".guest"), "w") as file:
-            file.write(PROGRAMS[name])
-    return suite
+    def ample(self, words):
+        return run(words, cwd=self.folder)
 
+    def sweep(self, words, status, is_refusal, lasting=False):
+        """Refuses one request after the other. A line that says what went wrong, or None."""
+        ample, quiet = self.ample(words), 0
+        if ample.status != status or ample.out + ample.err == "":
+            return "with ample memory: %r" % (ample,)
+        for fail_at in range(1, MOST):
+            answer, was_refused, _ = self.refused(words, FAIL_AT=str(fail_at), **({"FAIL_ON": "1"} if lasting else {}))
+            if answer != ample and not (was_refused and is_refusal(answer, ample)):
+                return "request %d refused: %r" % (fail_at, answer)
+            self.refusals += was_refused
+            quiet = 0 if was_refused else quiet + 1
+            if quiet == QUIET:
+                return None
+        return "no end after %d requests" % MOST
 
-def part_of(binary, folder, name):
-    """A file of what is under the empty prefix of a guest's schedules, at each bound twice."""
-    part = os.path.join(folder, name + ".part")
-    with open(part, "wb") as file:
-        file.write(2 * run(binary, ["explore", os.path.join(folder, name), "--under", "-"])[0][0])
-    return part
+    def sizes(self, words, status):
+        """The same where each request for so many bytes is refused, for one size after the other: what walks or
+        settling need and never get must end the search, also where all else can be had."""
+        ample = self.ample(words)
+        if ample.status != status:
+            return "with ample memory: %r" % (ample,)
+        for size in SIZES:
+            answer, was_refused, _ = self.refused(words, FAIL_SIZE=str(size))
+            if answer != ample and not (was_refused and says_memory(answer)):
+                return "each request for %d bytes refused: %r" % (size, answer)
+            self.refusals += was_refused
+        return None
 
+    def says(self, words, said):
+        """What is wrong with what a run says with ample memory, or None."""
+        answer = self.ample(words)
+        return None if answer == (said, "", 0) else repr(answer)
 
-def says(binary, words, said):
-    """No refusals, and what is wrong with what a run says with ample memory, or None."""
-    answer, _ = run(binary, words)
-    return 0, None if answer == (said.encode(), b"", 0) else "%s: %r" % (" ".join(words), answer)
+    def threads(self, words, workers):
+        """What is wrong with the number of threads that so many workers make in a search of some rounds of one bound, or None: a
+        thread for each of them but one, once."""
+        answer, _, made = self.refused([*words, "--workers", workers])
+        return None if answer.status == 0 and made == workers - 1 else "%d workers: %d threads, %r" % (workers, made, answer.status)
 
+    def suite_of(self, names):
+        """A folder with these guests, each as `NAME.guest`."""
+        for name in names.split():
+            self.write("%s/%s.guest" % ("_".join(names.split()), name), PROGRAMS[name])
+        return self.folder / "_".join(names.split())
 
-def threads(binary, words, library, workers):
-    """No refusals, and what is wrong with the number of threads that so many workers make in a search of
-    some rounds of one bound, or None: a thread for each of them but one, once."""
-    answer, told = run(binary, words + ["--workers", str(workers)], library)
-    made = told.count(b"t")
-    wrong = answer[2] != 0 or made != workers - 1
-    return 0, "%d workers: %d threads, status %r" % (workers, made, answer[2]) if wrong else None
+    def part_of(self, name):
+        """A file of what is under the empty prefix of a guest's schedules, at each bound twice."""
+        return self.write(name + ".part", 2 * self.run("explore", name, "--under", "-").out)
 
+    def trials(self):
+        """Each trial: a method, the words, and what else it takes."""
+        asked = lambda command, name, words: [self.binary, command, self.folder / name, *words.split()]
+        tools = self.given.tools
+        for command, words in THREADED:
+            for workers in (1, 2, 4, 16):
+                yield self.threads, asked(command, "six", words), workers
+        for runs, lasting in ((RUNS, False), (LASTING, True)):
+            for command, name, words, status in runs:
+                yield self.sweep, asked(command, name, words), status, says_memory, lasting
+        for name, of, status in JOINS:
+            yield self.sweep, [*asked("join", name, ""), self.part_of(of)], status, says_memory
+        for names, words, status in SUITES:
+            yield self.sweep, asked("suite", self.suite_of(names), words), status, says_memory_of_a_file
+        for command, name, words, status in QUESTIONS:
+            yield self.sweep, asked(command, name, words), status, says_memory_after_lines
+        for command, name, words, status in OF_SIZE:
+            yield self.sizes, asked(command, name, words), status
+        for tool, guest, words, said in SAID:
+            yield self.says, [tools, tool, self.folder / guest, *words.split()], said
+        for name, mode in WALKS:
+            yield self.sweep, [tools, "walk", self.folder / name, mode], 0, says_nothing
+        for name, schedule in AGAIN:
+            yield self.sweep, [tools, "again", self.folder / name, schedule], 0, says_nothing_of_words
 
-def main(binary, tools):
-    passed = failed = refusals = 0
-    with tempfile.TemporaryDirectory() as folder:
-        library = os.path.join(folder, "fail_alloc.so")
-        compiler = os.environ.get("CC", "cc")
-        source = os.path.join(HERE, "fail_alloc.c")
-        subprocess.run([compiler, "-shared", "-fPIC", "-O1", "-o", library, source, "-ldl"], check=True)
-        for name, text in PROGRAMS.items():
-            with open(os.path.join(folder, name), "w") as file:
-                file.write(text)
-        program, tools = os.path.abspath(binary), os.path.abspath(tools)
-        trials = [(threads, program, [command, os.path.join(folder, "six")] + words.split(), library, workers)
-                  for command, words in THREADED for workers in (1, 2, 4, 16)]
-        trials += [(sweep, program, [command, os.path.join(folder, name)] + words.split(), library, status,
-                    says_memory, lasting)
-                   for runs, lasting in ((RUNS, False), (LASTING, True)) for command, name, words, status in runs]
-        trials += [(sweep, program, ["join", os.path.join(folder, name), part_of(program, folder, of)], library, status,
-                    says_memory) for name, of, status in JOINS]
-        trials += [(sweep, program, ["suite", suite_of(folder, names)] + words.split(), library, status,
-                    says_memory_of_a_file) for names, words, status in SUITES]
-        trials += [(sweep, program, [command, os.path.join(folder, name)] + words.split(), library, status,
-                    says_memory_after_lines) for command, name, words, status in QUESTIONS]
-        trials += [(sizes, program, [command, os.path.join(folder, name)] + words.split(), library, status)
-                   for command, name, words, status in OF_SIZE]
-        trials += [(says, tools, [tool, os.path.join(folder, guest)] + words.split(), said)
-                   for tool, guest, words, said in SAID]
-        trials += [(sweep, tools, ["walk", os.path.join(folder, name), mode], library, 0, says_nothing)
-                   for name, mode in WALKS]
-        trials += [(sweep, tools, ["again", os.path.join(folder, name), schedule], library, 0,
-                    says_nothing_of_words) for name, schedule in AGAIN]
-        for trial, *arguments in trials:
-            count, wrong = trial(*arguments)
-            refusals += count
-            passed, failed = passed + (wrong is None), failed + (wrong is not None)
-            if wrong:
-                print(wrong)
-    print("%d requests for memory, a thread or a file were refused, one a run, all from one on or all of a size"
-          % refusals)
-    print("%d passed, %d failed" % (passed, failed))
-    return 1 if failed or refusals == 0 else 0
+    def test(self):
+        refusing(self.folder)
+        for trial, words, *more in self.trials():
+            wrong = trial(words, *more)
+            self.expect("%s, %s" % (" ".join(map(str, words)), wrong), wrong is None)
+        print("%d requests for memory, a thread or a file were refused, one a run, all from one on or all of a size" % self.refusals)
+        self.failed += self.refusals == 0
 
 
 if __name__ == "__main__":
-    sys.exit(main(*sys.argv[1:]))
+    Allocations.main("tools")

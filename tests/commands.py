@@ -11,12 +11,8 @@ import os
 import re
 import shlex
 import subprocess
-import sys
-import tempfile
-from pathlib import Path
 
-ROOT = Path(__file__).resolve().parent.parent
-SECONDS = 60
+from program import EXAMPLES, ROOT, Tester, run
 
 # B's load comes before, between or after A's stores: three schedules, and in the second B fails.
 RACE = "var x;\nthread A { store x 1; store x 0; }\nthread B { load r x; assert r == 0; }\n"
@@ -440,26 +436,23 @@ def json_line(file, expect, status, note, report):
     return head[:-1] + "," + (report or '"fault":%s}\n' % json.dumps(note))
 
 
-class Checker:
-    def __init__(self, binary, folder):
-        self.binary, self.folder, self.passed, self.failed = binary, folder, 0, 0
+class Commands(Tester):
+    texts = FILES
 
     def run(self, words, given=b""):
-        done = subprocess.run([self.binary] + words, cwd=self.folder, input=given,
-                              stdout=subprocess.PIPE, stderr=subprocess.PIPE, timeout=SECONDS)
-        return done.stdout.decode(), done.stderr.decode(), done.returncode
+        return super().run(*words, given=given)
+
+    def answers(self, words, *wanted, given=b""):
+        """Compares what is written on both streams and the status."""
+        self.same("ctxbound %r" % (words,), self.run(words, given), wanted)
 
     def compare(self, words, printed, wanted):
-        if printed == wanted:
-            self.passed += 1
-            return
-        self.failed += 1
-        print("ctxbound %r\n-- wanted: %r\n-- printed: %r" % (words, wanted, printed))
+        self.same("ctxbound %r" % (words,), printed, wanted)
 
     def words(self):
         """What the words ask for, and what is said of those that ask for nothing."""
         for words, wanted in WORDS:
-            self.compare(words, self.run(words), wanted)
+            self.answers(words, *wanted)
         words = ["unbounded", "--quick", "--limit", "1", "--workers", "2", "eights.guest"]
         out, err, status = self.run(words)
         report = json.loads(out)
@@ -480,25 +473,24 @@ class Checker:
             out, err, status = self.run(words)
             self.compare(words, (out, err[-len(HELP_END):], status), ("", HELP_END, 2))
         version = json.loads((ROOT / "share/vscode/package.json").read_text(encoding="utf-8"))["version"]
-        self.compare(["--version"], self.run(["--version"]), ("", "ctxbound %s\n" % version, 2))
+        self.answers(["--version"], "", "ctxbound %s\n" % version, 2)
 
     def limits(self):
         """Texts, schedules and searches at their limits and past them."""
         for text, schedule, wanted in replays_at_limits():
-            given = text if isinstance(text, bytes) else text.encode()
-            self.compare(["replay", "-", schedule], self.run(["replay", "-", schedule], given), wanted)
-        self.compare(["check", "-"], self.run(["check", "-"], (COPIES % "").encode()), ("", "", 0))
+            self.answers(["replay", "-", schedule], *wanted, given=text)
+        self.answers(["check", "-"], "", "", 0, given=COPIES % "")
         # Eight threads of one store each: more schedules than a round tries.
         text = "".join("var %s; " % name.lower() for name in SIXTEEN[:8])
         text += "".join(threads(name, "store %s 1; " % name.lower()) for name in SIXTEEN[:8])
         words = ["explore", "-", "--bound", "0", "--limit", "1000"]
-        out, err, status = self.run(words, text.encode())
+        out, err, status = self.run(words, text)
         tried = int(re.match(r"\d*", out[len(CUT_SHORT):])[0] or 0)
         self.compare(words, (out[:len(CUT_SHORT)], 1000 <= tried <= 17383, err, status), (CUT_SHORT, True, "", 3))
 
     def suites(self):
         for words, rows, sums, status in SUITES:
-            self.compare(["suite"] + words, self.run(["suite"] + words), (table(rows, sums), "", status))
+            self.answers(["suite"] + words, table(rows, sums), "", status)
         for words, files, status in (
                 (["as_expected.guest", "clean.guest"],
                  [("as_expected.guest", "bad", 0, "expected", RACE_REPORT), ("clean.guest", "clean", 0, "", APART_REPORT)], 0),
@@ -507,7 +499,7 @@ class Checker:
                   ("gone.guest", None, 4, "No such file or directory (os error 2)", None),
                   ("race.guest", None, 1, "", RACE_REPORT)], 4)):
             lines = "".join(json_line(*file) for file in files)
-            self.compare(["suite", "--json"] + words, self.run(["suite", "--json"] + words), (lines, "", status))
+            self.answers(["suite", "--json"] + words, lines, "", status)
 
     def expectations(self):
         """What is expected is met or not, and a comment that is nearly an expectation is told of."""
@@ -523,18 +515,18 @@ class Checker:
     def told_of_text(self, text, status, note):
         """The status and the note of a text by itself."""
         words = ["suite", "--json", "-"]
-        out, err, found = self.run(words, text.encode())
+        out, err, found = self.run(words, text)
         self.compare(words + [text], (json.loads(out)["note"], err, found), (note, "", status))
 
     def rows_as_they_come(self):
         """A row is written once its file is done: the one before a pipe that nobody writes to is there."""
-        pipe = Path(self.folder) / "pipe.guest"
+        pipe = self.folder / "pipe.guest"
         os.mkfifo(pipe)
         words = ["suite", "clean.guest", "pipe.guest"]
         with subprocess.Popen([self.binary] + words, cwd=self.folder, stdout=subprocess.PIPE) as started:
             lines = [started.stdout.readline().decode().split() for _ in range(2)]
             pipe.write_text(APART)
-            rest, status = started.stdout.read().decode().split("\n"), started.wait(SECONDS)
+            rest, status = started.stdout.read().decode().split("\n"), started.wait(self.seconds)
         pipe.unlink()
         self.compare(words, (lines, [line.split() for line in rest[:2]], status),
                      ([list(HEADS), ["clean.guest", *APART_ROW]],
@@ -543,10 +535,10 @@ class Checker:
     def verified(self):
         """Whether a program is right: a line on each search, and then the answer."""
         for words, lines, status in VERIFIED:
-            self.compare(["verify"] + words, self.run(["verify"] + words), (lines, "", status))
+            self.answers(["verify"] + words, lines, "", status)
         for words, line, status in ((["refused.guest"], "ctxbound: syntax S3 Expected at 2:1\n", 2),
                                     (["gone.guest"], "ctxbound: gone.guest: No such file or directory (os error 2)\n", 4)):
-            self.compare(["verify"] + words, self.run(["verify"] + words), ("", line, status))
+            self.answers(["verify"] + words, "", line, status)
         # the schedule that is named is the one that it says
         told = self.run(["verify", "it's here.guest"])[0].split("ctxbound ")[-1]
         self.compare(["verify"], self.run(shlex.split(told))[2], 1)
@@ -571,10 +563,10 @@ class Checker:
                    (["suite", "-"], LOADS + "# expect: good\n", after + ": one `# expect:` is wanted"),
                    (["verify", "-"], WAITS, "But W12 RanOut at %s:3: " % (place if is_marked else line + 1)))
             for words, text, wanted in begins + has:
-                out, err, _ = self.run(words, (head + text).encode())
+                out, err, _ = self.run(words, (head + text))
                 is_so = (err + out).startswith(wanted) if (words, text, wanted) in begins else wanted in out + err
                 self.compare([name, *words], wanted if is_so else err + out, wanted)
-            out, _, _ = self.run(["check", "--json", "-"], (head + "mutex x;\nthread A { }\n").encode())
+            out, _, _ = self.run(["check", "--json", "-"], (head + "mutex x;\nthread A { }\n"))
             found = json.loads(out)
             self.compare([name, "check", "--json"], [found[key] for key in ("file", "line", "column", "end")]
                          + [(note.get("file", "-"), note["line"]) for note in found["notes"]],
@@ -602,11 +594,11 @@ class Checker:
 
     def examples(self):
         """The examples are what they expect of themselves; each expects something."""
-        words = ["suite", "--json", str(ROOT / "examples")]
+        words = ["suite", "--json", EXAMPLES]
         out, err, status = self.run(words)
         lines = [json.loads(line) for line in out.splitlines()]
         odd = [line["file"] for line in lines if line["expect"] is None or line["verdict"] != line["expect"].split()[0]]
-        guests = sorted(str(path) for path in (ROOT / "examples").rglob("*.guest"))
+        guests = sorted(map(str, EXAMPLES.rglob("*.guest")))
         self.compare(words, ([line["file"] for line in lines], odd, err, status), (guests, [], "", 0))
 
     def traces(self):
@@ -617,10 +609,8 @@ class Checker:
             report, _, status = self.run(words)
             schedule = json.loads(report).get("schedule")
             trace = self.run(["replay", words[1], schedule])[0] if schedule else ""
-            self.compare(words + ["--trace"], self.run(words + ["--trace"]), (report + trace, "", status))
-        self.compare(["explore", "refused.guest", "--trace"],
-                     self.run(["explore", "refused.guest", "--trace"]),
-                     ("", "ctxbound: syntax S3 Expected at 2:1\n", 2))
+            self.answers(words + ["--trace"], report + trace, "", status)
+        self.answers(["explore", "refused.guest", "--trace"], "", "ctxbound: syntax S3 Expected at 2:1\n", 2)
 
     def progress(self):
         """With `--progress` standard error tells how far the search is, and standard output and the
@@ -629,8 +619,7 @@ class Checker:
             for more in ([], ["--workers", "2"]):
                 out, err, status = self.run(words + more)
                 self.compare(words + more, err, "")
-                self.compare(words + more + ["--progress"], self.run(words + more + ["--progress"]),
-                             (out, lines, status))
+                self.answers(words + more + ["--progress"], out, lines, status)
 
     def long_progress(self):
         """A longer search tells of each bound once it is at it, and of one again only where twice as
@@ -682,7 +671,7 @@ class Checker:
                 (["race.guest", "0,"], ("", "ctxbound: schedule Q1 BadSchedule at 2\n", 2)),
                 (["gone.guest"], ("", "ctxbound: gone.guest: No such file or directory (os error 2)\n", 4)),
                 (["folder"], ("", "ctxbound: folder: Is a directory (os error 21)\n", 4))):
-            self.compare(["explain"] + words, self.run(["explain"] + words), wanted)
+            self.answers(["explain"] + words, *wanted)
         _, err, status = self.run(["explain", "race.guest", "--html", "--json"])
         self.compare(["explain", "--html", "--json"], (err[:7], status), ("error: ", 2))
         wide = max(map(len, self.run(["explain", "race.guest", "--all", "--width", "60"])[0].split("\n")[:-2]))
@@ -712,12 +701,9 @@ class Checker:
         for words in (["explore", "FILE"], ["unbounded", "FILE", "--trace"], ["replay", "FILE", "0,1,0"],
                       ["replay", "FILE"]):
             by_name = self.run([word.replace("FILE", "race.guest") for word in words])
-            by_stream = self.run([word.replace("FILE", "-") for word in words], RACE.encode())
-            self.compare(words, by_stream, by_name)
-        self.compare(["suite", "-"], self.run(["suite", "-"], APART.encode()),
-                     (table([("-", *APART_ROW)], "1 file: 1 as expected"), "", 0))
-        self.compare(["replay", "-"], self.run(["replay", "-"], b" " * 65537),
-                     ("", "ctxbound: syntax S5 TooLong at 1:1\n", 2))
+            self.answers([word.replace("FILE", "-") for word in words], *by_name, given=RACE)
+        self.answers(["suite", "-"], table([("-", *APART_ROW)], "1 file: 1 as expected"), "", 0, given=APART)
+        self.answers(["replay", "-"], "", "ctxbound: syntax S5 TooLong at 1:1\n", 2, given=" " * 65537)
 
     def full_device(self):
         """A stream that can't be written is named by `suite` and `explain`, and is `file` elsewhere."""
@@ -726,55 +712,32 @@ class Checker:
                             (["explore", "clean.guest"], "ctxbound: file\n")):
             with open("/dev/full", "wb") as full:
                 done = subprocess.run([self.binary] + words, cwd=self.folder, stdout=full,
-                                      stderr=subprocess.PIPE, timeout=SECONDS)
+                                      stderr=subprocess.PIPE, timeout=self.seconds)
             self.compare(words, (done.stderr.decode(), done.returncode), (line, 4))
 
     def first(self, first):
         """The three commands of `first` print what they print here; it refuses all other words."""
-        run = Checker(first, self.folder).run
+        asked = lambda words: run([first, *words], cwd=self.folder)
         for words in (*(["explore", name, "--trace"] for name in FILES if name.endswith(".guest")),
                       *(["explain", name] for name in FILES if name.endswith(".guest")),
                       *(["explain", "race.guest", text] for text in ("0,1,0", "-", "0", "0,", "7", "0x3")),
                       ["explain", "refused.guest", "0"], ["explain", "gone.guest"], ["explain", "folder"],
                       *(["replay", "race.guest", text] for text in ("0,1,0", "0x2,1", "-", "0", "0,", "7", "0x3")),
                       ["replay", "refused.guest", "0"], ["replay", "gone.guest", "0"], ["explore", "folder", "--trace"]):
-            self.compare(words, run(words), self.run(words))
+            self.compare(words, asked(words), self.run(words))
         usage = "usage: first explain FILE [SCHEDULE], first explore FILE --trace, or first replay FILE SCHEDULE\n"
         for words in ([], ["explain"], ["explain", "race.guest", "0", "--html"], ["explore", "race.guest"], ["replay", "race.guest"], ["unbounded", "race.guest", "--trace"],
                       ["explore", "race.guest", "--quick"], ["explore", "race.guest", "--trace", "--quick"]):
-            self.compare(["first"] + words, run(words), ("", usage, 2))
+            self.compare(["first"] + words, asked(words), ("", usage, 2))
 
-
-def main():
-    if len(sys.argv) not in (2, 3) or not all(Path(name).is_file() for name in sys.argv[1:]):
-        raise SystemExit("usage: tests/commands.py BINARY [FIRST]")
-    with tempfile.TemporaryDirectory() as folder:
-        for name, text in FILES.items():
-            path = Path(folder) / name
-            path.parent.mkdir(parents=True, exist_ok=True)
-            path.write_text(text, encoding="utf-8")
-        checker = Checker(str(Path(sys.argv[1]).resolve()), folder)
-        checker.words()
-        checker.limits()
-        checker.suites()
-        checker.suites_cut_short()
-        checker.expectations()
-        checker.rows_as_they_come()
-        checker.verified()
-        checker.marked()
-        checker.examples()
-        checker.traces()
-        checker.progress()
-        checker.long_progress()
-        checker.explanations()
-        checker.checks()
-        checker.standard_input()
-        checker.full_device()
-        for first in sys.argv[2:]:
-            checker.first(str(Path(first).resolve()))
-    print("%d passed, %d failed" % (checker.passed, checker.failed))
-    raise SystemExit(1 if checker.failed else 0)
+    def test(self):
+        for test in (self.words, self.limits, self.suites, self.suites_cut_short, self.expectations, self.rows_as_they_come,
+                     self.verified, self.marked, self.examples, self.traces, self.progress, self.long_progress, self.explanations,
+                     self.checks, self.standard_input, self.full_device):
+            test()
+        if self.given.first:
+            self.first(self.given.first)
 
 
 if __name__ == "__main__":
-    main()
+    Commands.main("[first]")

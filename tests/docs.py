@@ -4,8 +4,8 @@
 Usage: tests/docs.py BINARY
        tests/docs.py --unproved
 
-With --unproved the program is built without proofs, by `rt try`: three times side by side, each for a third
-of the commands. It checks each access to memory as it runs and is slow, so each command is run once.
+With --unproved the program is built without proofs, by `rt try`: three times side by side, or as often as the variable
+BUILDS says, each for a part of the commands. It checks each access to memory as it runs and is slow, so each command is run once.
 
 In README.md and docs/*.md, fenced blocks are read by their first line:
 
@@ -26,6 +26,7 @@ standard output all others.
 
 Each search that is shown is made again by several workers, and must print the same.
 """
+import os
 import re
 import shlex
 import shutil
@@ -35,13 +36,13 @@ import tempfile
 from concurrent.futures import ThreadPoolExecutor
 from pathlib import Path
 
-ROOT = Path(__file__).resolve().parent.parent
-SECONDS = 60  # a replay takes a moment; one that takes this long counts as failed
+from program import EXAMPLES, ROOT, guests, run
+
 WORKERS = (2, 8)
 # What such a search prints may depend on the workers, or says how many they are.
 DEPENDS = {"--limit", "--quick", "--workers"}
-# So many builds without proofs run the commands side by side.
-BUILDS = 3
+# So many builds without proofs run the commands side by side. One takes the least time of a processor.
+BUILDS = int(os.environ.get("BUILDS", 3))
 ROWS = ROOT / "tests/rows.txt"
 
 
@@ -104,21 +105,26 @@ def row_blocks(text):
 
 def lines_of(asked, out, err, status):
     """What a command prints, as the documents write it: lines, and a status unless 0."""
-    lines = (out + err).decode("utf-8", "replace").split("\n")
+    lines = (out + err).split("\n")
     if lines.pop():
         return lines + ["(the last line doesn't end)"]
-    told, tells = ([line.startswith(b"ctxbound: ") for line in stream.splitlines()] for stream in (out, err))
+    told, tells = ([line.startswith("ctxbound: ") for line in stream.splitlines()] for stream in (out, err))
     if asked.is_row and (any(told) or not all(tells)):
         return lines + ["(a line is on the other stream)"]
     return lines + ["[status %d]" % status] if status else lines
 
 
+def written(folder, programs):
+    """A folder with these programs."""
+    for name, text in programs.items():
+        (Path(folder) / name).write_text(text, encoding="utf-8")
+    return Path(folder)
+
+
 def preprocessed(words, programs):
     """What the C preprocessor makes of a program, which may include others."""
     with tempfile.TemporaryDirectory() as folder:
-        for name, text in programs.items():
-            (Path(folder) / name).write_text(text, encoding="utf-8")
-        return subprocess.run(["cpp", *words], cwd=folder, capture_output=True, text=True, check=True).stdout
+        return run(["cpp", *words], cwd=written(folder, programs)).out
 
 
 def included(text):
@@ -126,18 +132,14 @@ def included(text):
     return re.findall(r'^#include "(.*)"$', text, re.M)
 
 
-def run(binary, asked):
-    """What a command prints, run by the program."""
+def printed_by(binary, asked):
+    """What a command prints, run by the program; one that takes a minute counts as failed."""
     with tempfile.TemporaryDirectory() as folder:
-        (Path(folder) / "examples").symlink_to(ROOT / "examples")
-        for name, text in asked.programs.items():
-            (Path(folder) / name).write_text(text, encoding="utf-8")
+        (written(folder, asked.programs) / "examples").symlink_to(EXAMPLES)
         try:
-            done = subprocess.run([binary] + asked.words, cwd=folder, input=asked.programs.get("-", "").encode(),
-                                  stdout=subprocess.PIPE, stderr=subprocess.PIPE, timeout=SECONDS)
-        except subprocess.TimeoutExpired:
-            return ["(no end within %d seconds)" % SECONDS]
-    return lines_of(asked, done.stdout, done.stderr, done.returncode)
+            return lines_of(asked, *run([binary, *asked.words], asked.programs.get("-", ""), cwd=folder))
+        except subprocess.TimeoutExpired as late:
+            return ["(no end within %d seconds)" % late.timeout]
 
 
 def write_case(folder, number, asked):
@@ -151,7 +153,7 @@ def write_case(folder, number, asked):
 
 def files_of(all_asked, folder):
     """The files that these commands find, by their names: the examples, and what the documents show."""
-    found = {str(path.relative_to(ROOT)): path for path in sorted((ROOT / "examples").glob("**/*.guest"))}
+    found = {str(path.relative_to(ROOT)): path for path in guests("examples", "examples/real")}
     for asked in all_asked:
         for name, text in asked.programs.items():
             if not asked.is_row and name != "-":
@@ -176,20 +178,15 @@ def run_by_one_build(all_asked):
             write_case(Path(cases), number, asked)
         data = [word for name, file in files_of(all_asked, Path(folder)).items()
                 for word in ("--data", "%s=%s" % (name, file))]
-        done = subprocess.run(["rt", "try", *data, "--cases", cases], cwd=ROOT / "crates/ctxbound",
-                              stdin=subprocess.DEVNULL, stdout=subprocess.PIPE, stderr=subprocess.PIPE)
+        done = run(["rt", "try", *data, "--cases", cases], seconds=None, cwd=ROOT / "crates/ctxbound")
     # Output comes behind a line `== CASE`; what else is written, before a line `case=CASE ..`.
-    outs = dict(re.findall(rb"^== (c\d{4})\n(.*?)(?=^== c\d{4}\n|\Z)", done.stdout, re.M | re.S))
+    outs = dict(re.findall(r"^== (c\d{4})\n(.*?)(?=^== c\d{4}\n|\Z)", done.out, re.M | re.S))
     errors = {case: (text, int(status)) for text, case, status in re.findall(
-        rb"(.*?)case=(c\d{4}) run=ended status=(\d+) [^\n]*\n", done.stderr, re.S)}
+        r"(.*?)case=(c\d{4}) run=ended status=(\d+) [^\n]*\n", done.err, re.S)}
     if not errors:
-        raise SystemExit(done.stderr.decode("utf-8", "replace") + "rt try: no answer")
-    all_printed = []
-    for number, asked in enumerate(all_asked):
-        case = b"c%04d" % number
-        text, status = errors.get(case, (b"(no answer)\n", 0))
-        all_printed.append(lines_of(asked, outs.get(case, b""), text, status))
-    return all_printed
+        raise SystemExit(done.err + "rt try: no answer")
+    cases = ["c%04d" % number for number in range(len(all_asked))]
+    return [lines_of(asked, outs.get(case, ""), *errors.get(case, ("(no answer)\n", 0))) for case, asked in zip(cases, all_asked)]
 
 
 def by_workers(words):
@@ -268,8 +265,7 @@ class Reader:
     def read(self):
         documents = [ROOT / "README.md"] + sorted((ROOT / "docs").glob("*.md"))
         work = [(self.document, path) for path in documents if path.exists()]
-        work += [(self.example, path) for path in sorted((ROOT / "examples").glob("*.guest"))]
-        work += [(self.rows, ROWS)]
+        work += [(self.example, path) for path in guests("examples")] + [(self.rows, ROWS)]
         for take_in, path in work:
             try:
                 take_in(path)
@@ -277,7 +273,7 @@ class Reader:
                 self.faults.append("%s\n    %s" % (path.name, fault))
         run = {word for asked in self.asked for word in asked.words}
         self.faults += ["examples/real/%s\n    no document runs this example" % path.name
-                        for path in sorted((ROOT / "examples" / "real").glob("*.guest"))
+                        for path in guests("examples/real")
                         if "examples/real/" + path.name not in run]
 
 
@@ -291,7 +287,7 @@ def main():
         answers = run_unproved(reader.asked)
     else:
         binary = str(Path(sys.argv[1]).resolve())
-        answers = (run(binary, asked) for asked in reader.asked)
+        answers = (printed_by(binary, asked) for asked in reader.asked)
     faults, passed = reader.faults, 0
     for asked, printed in zip(reader.asked, answers):
         if printed == asked.expected:

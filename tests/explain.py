@@ -15,14 +15,10 @@ Usage: tests/explain.py BINARY
 """
 import json
 import re
-import subprocess
-import sys
-from pathlib import Path
 
-ROOT = Path(__file__).resolve().parent.parent
+from program import EXAMPLES, ROOT, Tester, guests, run, text_of
+
 HERE = ROOT / "tests" / "explain"
-EXAMPLES = ROOT / "examples"
-SECONDS = 60
 
 # folder, guest, words, status, file with the output
 CASES = [
@@ -98,66 +94,47 @@ ODD = "my dir/it's a \u00e9.guest"
 LOST = "var x; thread A { load r x; set r r + 1; store x r; } thread B { load r x; set r r + 1; store x r; } " \
     "thread C { load s x; load t x; assert s == t; }"
 
-class Tester:
-    def __init__(self, binary):
-        self.binary, self.passed, self.failed = binary, 0, 0
-
-    def expect(self, what, holds, detail=""):
-        self.passed += bool(holds)
-        self.failed += not holds
-        if not holds:
-            print("%s%s" % (what, "\n" + detail if detail else ""))
-
-    def run(self, folder, *words):
-        done = subprocess.run([self.binary] + list(words), cwd=folder, stdin=subprocess.DEVNULL,
-                              stdout=subprocess.PIPE, stderr=subprocess.PIPE, timeout=SECONDS)
-        return done.returncode, done.stdout, done.stderr
+class Explained(Tester):
+    def explain(self, folder, *words):
+        return self.run("explain", *words, cwd=folder)
 
     def case(self, folder, guest, words, status, file):
-        got = self.run(folder, "explain", guest, *words)
-        want = (status, (HERE / file).read_bytes(), b"")
-        self.expect("explain %s %s" % (guest, " ".join(words)), got == want,
-                    "-- expected: %r\n%s-- printed: %r\n%s%s" % (
-                        want[0], want[1].decode(), got[0], got[1].decode("latin1"), got[2].decode("latin1")))
+        want = (text_of((HERE / file).read_bytes()), "", status)
+        self.same("explain %s %s" % (guest, " ".join(words)), self.explain(folder, guest, *words), want)
 
-    def nothing(self, folder):
+    def nothing(self):
         """A search that finds nothing says so: how far it went, and what it leaves open."""
-        (folder / "apart.guest").write_text(APART)
+        self.write("apart.guest", APART)
         for words, status, text in NOTHING:
-            got = self.run(folder, "explain", "apart.guest", *words)
-            self.expect("explain apart.guest %s: %r" % (words, got), got == (status, text.encode(), b""))
-        (folder / MARKUP).write_text(APART)
-        status, page, _ = self.run(folder, "explain", MARKUP, "--html")
-        told = re.findall(r"<(title|p)>(.*?)</\1>", page.decode(), re.S)
+            self.same("explain apart.guest %s" % words, self.run("explain", "apart.guest", *words), (text, "", status))
+        self.write(MARKUP, APART)
+        page, _, status = self.run("explain", MARKUP, "--html")
+        told = re.findall(r"<(title|p)>(.*?)</\1>", page, re.S)
         self.expect("a page that says so: %r" % told, status == 0 and told == [
             ("title", ESCAPED + " - ctxbound"), ("p", ESCAPED + ": no schedule is bad (6 tried).\n")])
 
-    def odd_name(self, folder):
+    def odd_name(self):
         """The last line is a command that a shell carries out, whatever the file's name is; it leaves out
         the part of the schedule that doesn't run."""
-        (folder / ODD).parent.mkdir()
-        (folder / ODD).write_text(LOST)
-        (folder / "ctxbound").symlink_to(self.binary)
+        self.write(ODD, LOST)
+        (self.folder / "ctxbound").symlink_to(self.binary)
         for schedule, ran in (("2,0x2,2", "2,0x2,2"), ("0,1x2,0,0,2", "0,1x2,0"), ("0,7", "0")):
-            _, text, _ = self.run(folder, "explain", ODD, schedule)
-            line = text.decode().split("\n")[-2]
+            line = self.run("explain", ODD, schedule).out.split("\n")[-2]
             self.expect("the file's name is in quotes: %s" % line,
                         line == "Replay: ctxbound replay 'my dir/it'\\''s a \u00e9.guest' " + ran)
-            done = subprocess.run(line[len("Replay: "):], shell=True, cwd=folder, stdout=subprocess.DEVNULL,
-                                  env={"PATH": str(folder)}, timeout=SECONDS)
-            self.expect("the command runs: %s" % line, done.returncode == 0)
+            done = run(["/bin/sh", "-c", line[len("Replay: "):]], cwd=self.folder, env={"PATH": str(self.folder)})
+            self.expect("the command runs: %s" % line, done.status == 0)
 
-    def long_names(self, folder):
+    def long_names(self):
         """However long the names are, no line is too wide, none ends with a blank, and each step's statement is
         told."""
         names = ["n" * 99 + str(n) for n in range(6)]
-        (folder / "long_names.guest").write_text("mutex m; " + " ".join(
-            "thread %s { lock m; unlock m; }" % name for name in names))
+        self.write("long_names.guest", "mutex m; " + " ".join("thread %s { lock m; unlock m; }" % name for name in names))
         for width in (40, 60, 100):
-            _, text, _ = self.run(folder, "explain", "long_names.guest", "0x2,5", "--width", str(width))
-            lines = text.decode().split("\n")[:-2]
-            self.expect("lines of at most %d columns" % width, all(len(line) <= width for line in lines), text.decode())
-            self.expect("no blanks at their ends", all(line == line.rstrip() for line in lines), text.decode())
+            text = self.run("explain", "long_names.guest", "0x2,5", "--width", width).out
+            lines = text.split("\n")[:-2]
+            self.expect("lines of at most %d columns" % width, all(len(line) <= width for line in lines), text)
+            self.expect("no blanks at their ends", all(line == line.rstrip() for line in lines), text)
             for row in ("0    1 ", "1    1 ", "2    1 "):
                 found = [line for line in lines if line.strip().startswith(row)]
                 statement = "unlock m" if row[0] == "1" else "lock m"
@@ -165,8 +142,8 @@ class Tester:
 
     def widths(self, guest, schedule):
         for width in (40, 60, 100):
-            _, text, _ = self.run(EXAMPLES, "explain", guest, schedule, "--width", str(width), "--all")
-            lines = text.decode("ascii").split("\n")
+            text = self.explain(EXAMPLES, guest, schedule, "--width", width, "--all").out
+            lines = text.encode("ascii").decode().split("\n")
             self.expect("%s: the text ends with its command" % guest,
                         lines[-1] == "" and lines[-2].startswith("Replay: ctxbound replay "))
             for line in lines[:-2]:
@@ -174,22 +151,20 @@ class Tester:
                 self.expect("%s: %r ends with a space" % (guest, line), line == line.rstrip())
 
     def steps(self, guest, schedule):
-        _, text, _ = self.run(EXAMPLES, "explain", guest, schedule, "--json")
-        told = json.loads(text)
-        _, trace, _ = self.run(EXAMPLES, "replay", guest, schedule)
-        lines = [l for l in trace.decode().split("\n") if re.match(r"\d", l)]
+        told = json.loads(self.explain(EXAMPLES, guest, schedule, "--json").out)
+        trace = self.run("replay", guest, schedule, cwd=EXAMPLES).out
+        lines = [l for l in trace.split("\n") if re.match(r"\d", l)]
         self.expect("%s: as many steps as the trace has" % guest, len(lines) == len(told["steps"]))
         for line, step in zip(lines, told["steps"]):
             self.expect("%s: step %d is %r" % (guest, step["step"], line), line == trace_line(step),
                         trace_line(step))
-        values = sorted(trace.decode().split("\nvars")[1].split())
+        values = sorted(trace.split("\nvars")[1].split())
         self.expect("%s: the values reached" % guest, values == values_after(told))
         return told
 
     def data(self, folder, guest, schedule):
         """The page, and its data."""
-        _, text, _ = self.run(folder, "explain", guest, schedule, "--html")
-        page = text.decode("ascii")
+        page = self.explain(folder, guest, schedule, "--html").out.encode("ascii").decode()
         found = re.findall(r'<script type="application/json" id="data">(.*?)</script>', page, re.S)
         self.expect("%s: the page has its data once" % guest, len(found) == 1)
         self.expect("%s: nothing in the data ends it" % guest, all("<" not in data for data in found))
@@ -210,27 +185,26 @@ class Tester:
         self.expect("%s: the page asks no network" % guest, not re.search(r"https?://(?!www\.w3\.org)", page))
 
     def example(self, path):
-        _, report, _ = self.run(EXAMPLES, "explore", path.name)
-        schedule = json.loads(report).get("schedule") or "-"
+        schedule = json.loads(self.run("explore", path.name, cwd=EXAMPLES).out).get("schedule") or "-"
         self.widths(path.name, schedule)
         self.page(path.name, schedule, self.steps(path.name, schedule))
 
-    def long_run(self, folder):
+    def long_run(self):
         """Fifteen threads wait again and again, and one wakes them all each time: near the most steps that
         a program has. Each step is told, once and in order."""
         rounds = 1022
         turns = "repeat 31 { repeat 32 { %s } } repeat 30 { %s }"
         text = "mutex m; cond c; " + " ".join(
             "thread T%d { lock m; %s }" % (t, turns % (("wait c m;",) * 2)) for t in range(15))
-        (folder / "long.guest").write_text(text + " thread B { %s }" % (turns % (("broadcast c;",) * 2)))
+        self.write("long.guest", text + " thread B { %s }" % (turns % (("broadcast c;",) * 2)))
         schedule = ",".join(["%dx2" % t for t in range(15)] + ["15"]) + ","
         schedule = (schedule * rounds)[:-1]
         steps = rounds * 31
         for words in ([], ["--all"], ["--json"], ["--html"]):
-            status, out, err = self.run(folder, "explain", "long.guest", schedule, *words)
-            self.expect("%d steps %s: status %d" % (steps, words, status), (status, err) == (0, b""))
+            out, err, status = self.run("explain", "long.guest", schedule, *words)
+            self.expect("%d steps %s: status %d" % (steps, words, status), (status, err) == (0, ""))
             if not words or words == ["--all"]:
-                lines = out.decode().split("\n")
+                lines = out.split("\n")
                 found = [re.match(r" *(\d+) +\d+  ", line) for line in lines]
                 rows = [int(row.group(1)) for row in found if row]
                 self.expect("%d steps are told" % steps, "after %d steps with" % steps in lines[0], lines[0])
@@ -240,6 +214,14 @@ class Tester:
             if words == ["--json"]:
                 told = [step["step"] for step in json.loads(out)["steps"]]
                 self.expect("each step is an object", told == list(range(steps)))
+
+    def test(self):
+        for case in CASES:
+            self.case(*case)
+        for path in guests("examples"):
+            self.example(path)
+        for test in (self.marks, self.nothing, self.odd_name, self.long_names, self.long_run):
+            test()
 
 
 def trace_line(step):
@@ -270,22 +252,5 @@ def values_after(told):
     return sorted("%s=%d" % item for item in values.items())
 
 
-def main():
-    if len(sys.argv) != 2 or not Path(sys.argv[1]).is_file():
-        raise SystemExit("usage: tests/explain.py BINARY")
-    tester = Tester(str(Path(sys.argv[1]).resolve()))
-    for case in CASES:
-        tester.case(*case)
-    for path in sorted(EXAMPLES.glob("*.guest")):
-        tester.example(path)
-    tester.marks()
-    import tempfile
-    with tempfile.TemporaryDirectory() as folder:
-        for test in (tester.nothing, tester.odd_name, tester.long_names, tester.long_run):
-            test(Path(folder))
-    print("%d passed, %d failed" % (tester.passed, tester.failed))
-    raise SystemExit(1 if tester.failed or not tester.passed else 0)
-
-
 if __name__ == "__main__":
-    main()
+    Explained.main()

@@ -6,23 +6,17 @@ Usage: tests/machines.py BINARY
 In each the first search of a part is killed, and the same command again takes it up and does nothing twice. Slurm's daemons are
 started here, for this machine alone, in a folder of their own. What isn't on this machine is left out and named: `parallel`,
 `make`, Slurm.
-
-The last line is `N passed, M failed`.
 """
 import os
 import re
 import shutil
 import signal
 import socket
-import subprocess
-import sys
-import tempfile
 import time
-from pathlib import Path
 
-ROOT = Path(__file__).resolve().parent.parent
+from program import EXAMPLES, ROOT, Tester, run
+
 SCRIPTS = ROOT / "share" / "machines"
-SECONDS = 120
 GUESTS = {"my guest": ("lost_update.guest", "2"), "fixed.guest": ("lost_update_fixed.guest", "3")}
 SLURM = ("munged", "slurmctld", "slurmd", "sinfo", "sbatch")
 
@@ -66,54 +60,45 @@ def free_port():
         return one.getsockname()[1]
 
 
-class Tester:
-    def __init__(self, binary, folder):
-        self.binary, self.folder, self.passed, self.failed, self.left_out = binary, folder, 0, 0, []
-        (folder / "bin").mkdir()
-        (folder / "bin" / "ctxbound").write_text(KILLED % binary)
-        (folder / "bin" / "ctxbound").chmod(0o755)
+class Machines(Tester):
+    seconds = 120
+
+    def __init__(self, given, folder):
+        super().__init__(given, folder)
+        self.write("bin/ctxbound", KILLED % self.binary).chmod(0o755)
         self.environment = dict(os.environ, PATH="%s:%s" % (folder / "bin", os.environ["PATH"]), HOME=str(folder),
                                 LC_ALL="C", PARTS="20")
         for name, (example, _) in GUESTS.items():
-            shutil.copy(ROOT / "examples" / example, folder / name)
-
-    def expect(self, what, holds, *told):
-        self.passed += bool(holds)
-        self.failed += not holds
-        if not holds:
-            print("\n    ".join([what] + [str(one)[:2000] for one in told]))
+            shutil.copy(EXAMPLES / example, folder / name)
 
     def run(self, *words, kills=None, **more):
         """A command, in which the first search under a prefix is killed where it is said which folder tells so."""
         killed = str(self.folder / (kills or "bin"))
-        return subprocess.run([str(word) for word in words], cwd=self.folder, stdin=subprocess.DEVNULL, capture_output=True,
-                              timeout=SECONDS, env=dict(self.environment, KILLED=killed, **more))
+        return run(words, seconds=self.seconds, cwd=self.folder, env=dict(self.environment, KILLED=killed, **more))
+
+    def is_whole(self, what, done, name, bound):
+        """Compares what a script printed and its status with those of one search."""
+        self.expect(what, (done.out, done.status) == self.wanted(name, bound), *done)
 
     def wanted(self, name, bound):
         done = self.run(self.binary, "explore", name, "--bound", bound)
-        return done.stdout, done.returncode
-
-    def has(self, *tools):
-        gone = [tool for tool in tools if not shutil.which(tool)]
-        self.left_out += gone
-        return not gone
+        return done.out, done.status
 
     def taken_up(self, what, name, bound, *words, **more):
         """A script says that a part which was killed is missing, and the same command again takes it up. What is kept is beside
         the guest, or where FOLDER says."""
         done = self.run(*words, kills=what, **more)
-        self.expect(what + ": a part was killed", done.returncode not in (0, 1) and not done.stdout, done.returncode,
-                    done.stdout, done.stderr)
+        self.expect(what + ": a part was killed", done.status not in (0, 1) and not done.out, *done)
         self.expect(what + ": it was", (self.folder / what).is_dir())
         done = self.run(*words, kills=what, **more)
-        self.expect(what, (done.stdout, done.returncode) == self.wanted(name, bound), done.stdout, done.stderr, done.returncode)
+        self.is_whole(what, done, name, bound)
         self.nothing_twice(what, name)
         kept = self.folder / more.get("FOLDER", ".") / ("%s.%s.20" % (name, bound))
         self.expect(what + ": the folder", kept.is_dir() and (not more or not (self.folder / kept.name).exists()), kept)
 
     def nothing_twice(self, what, name):
         """Under each prefix that is listed one search wasn't killed."""
-        listed = self.run(self.binary, "prefixes", name, "--at-least", "20").stdout.decode().split()
+        listed = self.run(self.binary, "prefixes", name, "--at-least", "20").out.split()
         searched = [line.split()[-1] for line in (self.folder / (what + ".searches")).read_text().splitlines()]
         self.expect(what + ": each part is searched once", sorted(searched) == sorted(listed), searched)
 
@@ -121,15 +106,12 @@ class Tester:
         """A program that is missing is named, also where another one has its name."""
         for there in (None, "#!/bin/sh\necho other\n"):
             tools = self.folder / ("with" if there else "without")
-            tools.mkdir()
+            self.write("with/parallel" if there else "without/other", there or "").chmod(0o755)
             for tool in ("sh", "dirname", "basename", "grep", "mkdir", "cat"):
                 (tools / tool).symlink_to(shutil.which(tool))
-            if there:
-                (tools / "parallel").write_text(there)
-                (tools / "parallel").chmod(0o755)
             done = self.run("sh", SCRIPTS / "search_by_parallel.sh", "my guest", "2", PATH="%s:%s" % (tools, self.folder / "bin"))
-            self.expect("without GNU parallel, %s another" % tools.name, done.returncode == 127 and done.stderr.endswith(
-                b": GNU parallel isn't on the PATH\n") and not list(self.folder.glob("*.20")), done.returncode, done.stderr)
+            self.expect("without GNU parallel, %s another" % tools.name, done.status == 127 and done.err.endswith(
+                ": GNU parallel isn't on the PATH\n") and not list(self.folder.glob("*.20")), *done)
 
     def by_parallel(self):
         if not self.has("parallel"):
@@ -137,8 +119,7 @@ class Tester:
         shown = re.search(r"^```sh\n(.*?)^```$", (ROOT / "docs" / "MACHINES.md").read_text(), re.M | re.S)[1]
         shutil.copy(self.folder / "my guest", self.folder / "my.guest")
         done = self.run("sh", "-c", shown)
-        self.expect("the pipeline that is shown", (done.stdout, done.returncode) == self.wanted("my.guest", "4"), done.stdout,
-                    done.stderr)
+        self.is_whole("the pipeline that is shown", done, "my.guest", "4")
         for (name, (_, bound)), more in zip(GUESTS.items(), ({}, {"FOLDER": "kept here"})):
             self.taken_up("parallel of " + name, name, bound, "sh", SCRIPTS / "search_by_parallel.sh", name, bound, "4/:", **more)
 
@@ -151,8 +132,7 @@ class Tester:
         shutil.copy(self.folder / "fixed.guest", self.folder / "kept")
         (self.folder / "fixed.guest").write_text((self.folder / "kept").read_text() + "# other\n")
         done = self.run(*words)
-        self.expect("make, where the guest is newer", (done.stdout, done.returncode) == self.wanted("fixed.guest", "3"),
-                    done.stdout, done.stderr)
+        self.is_whole("make, where the guest is newer", done, "fixed.guest", "3")
         shutil.copy(self.folder / "kept", self.folder / "fixed.guest")
 
     def by_jobs(self):
@@ -160,9 +140,8 @@ class Tester:
         for job in range(1, 5):
             done = self.run("bash", SCRIPTS / "search.sbatch", "fixed.guest", "3", SLURM_ARRAY_TASK_ID=str(job),
                             SLURM_ARRAY_TASK_MIN="1", SLURM_ARRAY_TASK_COUNT="4", FOLDER="by jobs")
-            self.expect("job %d" % job, done.returncode == 0, done.stderr)
-        done = self.joined("fixed.guest", "3", "by jobs/")
-        self.expect("jobs", (done.stdout, done.returncode) == self.wanted("fixed.guest", "3"), done.stdout, done.stderr)
+            self.expect("job %d" % job, done.status == 0, done.err)
+        self.is_whole("jobs", self.joined("fixed.guest", "3", "by jobs/"), "fixed.guest", "3")
 
     def by_slurm(self):
         if not self.has(*SLURM) or os.geteuid():
@@ -191,7 +170,7 @@ class Tester:
         self.run("slurmctld", "-c", "-i")
         self.run("slurmd")
         for _ in range(40):
-            if b"idle" in self.run("sinfo", "-h", "-o", "%T").stdout:
+            if "idle" in self.run("sinfo", "-h", "-o", "%T").out:
                 return True
             time.sleep(0.25)
         self.left_out.append("Slurm, which doesn't come up")
@@ -200,36 +179,26 @@ class Tester:
     def array(self):
         words = ["sbatch", "--wait", "--output=/dev/null", "--array=1-4", SCRIPTS / "search.sbatch", "my guest", "2"]
         done = self.run(*words, kills="slurm's")
-        self.expect("Slurm: a part was killed", done.returncode != 0, done.stderr)
-        self.expect("Slurm: it is missing", self.joined("my guest", "2").returncode == 3)
+        self.expect("Slurm: a part was killed", done.status != 0, done.err)
+        self.expect("Slurm: it is missing", self.joined("my guest", "2").status == 3)
         done = self.run(*words, kills="slurm's")
-        self.expect("Slurm: all jobs end well", done.returncode == 0, done.stdout, done.stderr)
-        done = self.joined("my guest", "2")
-        self.expect("Slurm", (done.stdout, done.returncode) == self.wanted("my guest", "2"), done.stdout, done.stderr)
+        self.expect("Slurm: all jobs end well", done.status == 0, *done)
+        self.is_whole("Slurm", self.joined("my guest", "2"), "my guest", "2")
         self.nothing_twice("slurm's", "my guest")
 
     def joined(self, name, bound, folder=""):
         return self.run("sh", "-c", 'cat "$2$0.$1.20"/*.part | ctxbound join "$0" --bound "$1"', name, bound, folder)
 
-
-def main():
-    if len(sys.argv) != 2:
-        raise SystemExit(__doc__)
-    with tempfile.TemporaryDirectory() as folder:
-        tester = Tester(str(Path(sys.argv[1]).resolve(strict=True)), Path(folder))
-        tester.without_parallel()
-        tester.by_make()
-        tester.by_jobs()
-        tester.by_slurm()
+    def test(self):
+        self.without_parallel()
+        self.by_make()
+        self.by_jobs()
+        self.by_slurm()
         # It keeps its parts in folders of the same names.
-        for kept in Path(folder).glob("*.20"):
+        for kept in self.folder.glob("*.20"):
             shutil.rmtree(kept)
-        tester.by_parallel()
-    if tester.left_out:
-        print("not here: " + ", ".join(dict.fromkeys(tester.left_out)))
-    print("%d passed, %d failed" % (tester.passed, tester.failed))
-    raise SystemExit(1 if tester.failed or not tester.passed else 0)
+        self.by_parallel()
 
 
 if __name__ == "__main__":
-    main()
+    Machines.main()

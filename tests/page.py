@@ -21,14 +21,10 @@ import html
 import json
 import re
 import shutil
-import subprocess
-import sys
-import tempfile
-from pathlib import Path
 
-ROOT = Path(__file__).resolve().parent.parent
+from program import ROOT, Tester, guests, run
+
 BROWSERS = ("chromium", "chromium-browser", "google-chrome")
-SECONDS = 120
 
 # The name of a file that would end an element, were it not told as text.
 MARKUP = """<img src=x onerror="window.broken = 1">&'.guest"""
@@ -125,12 +121,6 @@ def shown(state):
             for title, objects in state.items() if objects}
 
 
-def replayed(binary, path, schedule):
-    """The lines of the trace."""
-    trace = subprocess.run([binary, "replay", str(path), schedule], stdout=subprocess.PIPE, timeout=SECONDS)
-    return trace.stdout.decode().split("\n")
-
-
 def states(path, trace):
     """What the trace gives after each number of steps."""
     state = opening_state(path.read_text())
@@ -207,33 +197,27 @@ def graph(told):
             "nodes": [name if name in blocked else "%s (%s)" % (name, status[name]) for name in there]}
 
 
-def seen(browser, page, folder):
+def seen(browser, page, tester):
     """What the page shows, at each step and beside, and the errors of its console."""
-    file = folder / "page.html"
-    file.write_text(page.replace("</body>", WALK))
-    done = subprocess.run([browser, "--headless", "--no-sandbox", "--disable-gpu", "--enable-logging=stderr",
-                           "--window-size=390,844",
-                           "--user-data-dir=%s" % (folder / "profile"), "--virtual-time-budget=10000",
-                           "--dump-dom", file.as_uri()],
-                          stdout=subprocess.PIPE, stderr=subprocess.PIPE, timeout=SECONDS)
-    errors = [line for line in done.stderr.decode("utf-8", "replace").split("\n") if "CONSOLE" in line]
-    found = re.search(r'<pre id="seen">(.*?)</pre>', done.stdout.decode("utf-8", "replace"), re.S)
+    file = tester.write("page.html", page.replace("</body>", WALK))
+    done = run([browser, "--headless", "--no-sandbox", "--disable-gpu", "--enable-logging=stderr", "--window-size=390,844",
+                "--user-data-dir=%s" % (tester.folder / ("profile%d" % tester.passed)), "--virtual-time-budget=10000", "--dump-dom", file.as_uri()],
+               seconds=tester.seconds)
+    found = re.search(r'<pre id="seen">(.*?)</pre>', done.out, re.S)
+    errors = [line for line in done.err.split("\n") if "CONSOLE" in line]
     return json.loads(html.unescape(found.group(1))) if found else None, errors
 
 
-def faults(binary, browser, path, search):
+def faults(tester, browser, path, search):
     """What is wrong with the page of a guest, which a search of this kind explains where one is bad."""
     command = {"explore": [], "unbounded": ["--unbounded"]}[search]
-    done = subprocess.run([binary, search, str(path)], stdout=subprocess.PIPE, timeout=SECONDS)
-    report = json.loads(done.stdout)
+    report = json.loads(tester.run(search, path).out)
     schedule = report.get("schedule")
     words = command if schedule else ["-"]
-    page, text = (subprocess.run([binary, "explain", str(path), *words, *form], stdout=subprocess.PIPE,
-                                 timeout=SECONDS).stdout.decode() for form in (["--html"], []))
+    page, text = (tester.run("explain", path, *words, *form).out for form in (["--html"], []))
     told = json.loads(re.search(r'<script type="application/json" id="data">(.*?)</script>', page, re.S).group(1))
-    with tempfile.TemporaryDirectory() as folder:
-        got, errors = seen(browser, page, Path(folder))
-    trace = replayed(binary, path, schedule or "-")
+    got, errors = seen(browser, page, tester)
+    trace = tester.run("replay", path, schedule or "-").out.split("\n")
     kinds = {"Variables", "Mutexes", "Conditions", "Semaphores"}
     if errors or got is None:
         return ["its console has an error", errors]
@@ -259,30 +243,20 @@ def faults(binary, browser, path, search):
     return []
 
 
-def main():
-    if len(sys.argv) != 2 or not Path(sys.argv[1]).is_file():
-        raise SystemExit("usage: tests/page.py BINARY")
-    binary = str(Path(sys.argv[1]).resolve())
-    browser = next(filter(None, map(shutil.which, BROWSERS)), None)
-    if browser is None:
-        print("no browser: the page was not opened")
-        return
-    failed = 0
-    with tempfile.TemporaryDirectory() as folder:
-        markup = Path(folder) / MARKUP
-        markup.write_text((ROOT / "tests/explain/names.guest").read_text())
-        for name, text in GUESTS.items():
-            (Path(folder) / name).write_text(text)
-        paths = [*sorted((ROOT / "examples").glob("*.guest")), *sorted(Path(folder).glob("*.guest"))]
-        pages = [(path, search) for path in paths for search in ("explore", "unbounded")]
-        for path, search in pages:
-            found = faults(binary, browser, path, search)
-            failed += bool(found)
-            if found:
-                print("%s, %s: %s" % (path.name, search, "\n".join(map(str, found))))
-    print("%d passed, %d failed" % (len(pages) - failed, failed))
-    raise SystemExit(1 if failed else 0)
+class Pages(Tester):
+    seconds = 120
+    texts = {**GUESTS, MARKUP: (ROOT / "tests/explain/names.guest").read_text()}
+
+    def test(self):
+        browser = next(filter(None, map(shutil.which, BROWSERS)), None)
+        if browser is None:
+            print("no browser: the page was not opened")
+            raise SystemExit(0)
+        for path in [*guests("examples"), *sorted(self.folder.glob("*.guest"))]:
+            for search in ("explore", "unbounded"):
+                found = faults(self, browser, path, search)
+                self.expect("%s, %s:" % (path.name, search), not found, *found)
 
 
 if __name__ == "__main__":
-    main()
+    Pages.main()

@@ -12,24 +12,17 @@ Guests are those of examples/, examples/real/ and tests/explain/, and N made at 
 - A line that is missing, cut, cut short by a limit, of another guest, or of other prefixes is told in one line, and
   nothing is printed. A line in which a byte is another one is refused, or read as the same.
 - Words that ask for nothing are refused, and the comparison notices each field that is another.
-
-The last line is `N passed, M failed`.
 """
-import argparse
 import hashlib
 import json
 import os
-import random
-import subprocess
-import tempfile
 from collections import namedtuple
 from concurrent.futures import ThreadPoolExecutor
-from pathlib import Path
 
 from prefixes import TooMany, nodes, run_of
-from simulator import FOLDERS, ROOT, Guest, Maker, schedule_of, schedule_text
+from program import EXAMPLES, Tester, compact, guests, schedule_of, schedule_text, text_of
+from simulator import Guest, Maker
 
-SECONDS = 60
 # How many prefixes are asked for, and of how many guests one is asked for so many.
 COUNTS = ((1, 1), (7, 1), (64, 8), (1000, 60))
 BOUNDS = (2, 1, 0)
@@ -94,7 +87,7 @@ def level(tried, beyond, bound, prefix, text):
             "failed": sum(one.kind == "failed" for one in tried), "stuck": sum(one.kind == "stuck" for one in tried),
             "guest": {"bytes": len(text), "sha256": hashlib.sha256(text).hexdigest()}, "tried": len(tried),
             "schedule": schedule_text(bad[0]) if bad else None, "under": schedule_text(prefix)}
-    return json.dumps(told, sort_keys=True, separators=(",", ":")) + "\n"
+    return compact(told)
 
 
 def levels(everything, bound, prefix, text):
@@ -119,39 +112,29 @@ def begun_by_none(prefix, others):
                 if not any(other[:length] == prefix[:length] for other in others))
 
 
-class Tester:
-    def __init__(self, binary, chance, folder):
-        self.binary, self.chance, self.folder = binary, chance, folder
-        self.passed, self.failed, self.guests, self.lines = 0, 0, 0, 0
+class Parts(Tester):
+    def __init__(self, given, folder):
+        super().__init__(given, folder)
+        self.guests, self.lines = 0, 0
         self.pool = ThreadPoolExecutor(os.cpu_count() or 1)
 
-    def expect(self, what, holds, *detail):
-        self.passed += bool(holds)
-        self.failed += not holds
-        if not holds:
-            print("\n    ".join([what] + [str(one)[:400] for one in detail]))
-
-    def asked(self, *words, text=b""):
-        done = subprocess.run([self.binary, *map(str, words)], input=text, capture_output=True, timeout=SECONDS)
-        return done.stdout, done.stderr.decode(), done.returncode
-
     def prefixes(self, path, search, count):
-        return self.asked("prefixes", path, "--at-least", count, *search.listed)[0].decode().split()
+        return self.run("prefixes", path, "--at-least", count, *search.listed).out.split()
 
     def under(self, path, search, prefix, *more):
-        return self.asked(search.command, path, *search.words, "--under", prefix, *more)
+        return self.run(search.command, path, *search.words, "--under", prefix, *more)
 
     def parts(self, path, search, prefixes, *more):
         return list(self.pool.map(lambda prefix: self.under(path, search, prefix, *more), prefixes))
 
     def join(self, path, search, lines):
-        return self.asked("join", path, *search.joined, text=b"".join(lines))
+        return self.run("join", path, *search.joined, given="".join(lines))
 
     # ---- whole searches
 
     def guest(self, path):
         for bound in (self.bound_for(path), None):
-            if bound is None and self.asked("unbounded", path, "--limit", LIMIT)[2] == 3:
+            if bound is None and self.run("unbounded", path, "--limit", LIMIT)[2] == 3:
                 continue
             search = search_of(bound)
             for count, of in COUNTS:
@@ -162,15 +145,15 @@ class Tester:
 
     def bound_for(self, path):
         """A bound up to which a guest is searched soon."""
-        fits = (bound for bound in BOUNDS if self.asked("explore", path, "--bound", bound, "--limit", LIMIT)[2] != 3)
+        fits = (bound for bound in BOUNDS if self.run("explore", path, "--bound", bound, "--limit", LIMIT)[2] != 3)
         return next(fits, 0)
 
     def whole(self, path, search, count):
-        wanted = self.asked(search.command, path, *search.words)
+        wanted = self.run(search.command, path, *search.words)
         prefixes = self.prefixes(path, search, count)
         parts = self.parts(path, search, prefixes)
         name = "%s %s %s in %d parts" % (search.command, path, " ".join(search.words), len(prefixes))
-        bad = [b'"schedule":"' in out for out, _, _ in parts]
+        bad = ['"schedule":"' in out for out, _, _ in parts]
         self.expect(name + ": a status", [part[1:] for part in parts] == [("", int(one)) for one in bad], parts)
         lines = [line for out, _, _ in parts for line in out.splitlines(True)]
         lines += self.chance.sample(lines, min(3, len(lines)))
@@ -191,14 +174,14 @@ class Tester:
         for prefix, got in zip(tried, self.parts(path, search, map(schedule_text, tried))):
             lines, status = levels(everything, bound, prefix, text)
             name = "%s %s --under %s" % (search.command, path, schedule_text(prefix))
-            self.expect(name, got == (lines.encode(), "", status), got, (lines, status))
+            self.expect(name, got == (lines, "", status), got, (lines, status))
             self.lines += lines.count("\n")
 
     # ---- what is missing or refused
 
     def refused(self, what, path, search, lines, told, status):
         got = self.join(path, search, lines)
-        self.expect(what, got == (b"", "ctxbound: %s\n" % told, status), got, told)
+        self.expect(what, got == ("", "ctxbound: %s\n" % told, status), got, told)
 
     def missing(self, path, search):
         prefixes = self.prefixes(path, search, 7)
@@ -225,7 +208,7 @@ class Tester:
         """A part that is cut short, alone and beside what it lacks."""
         prefix = prefixes[at]
         out, err, status = self.under(path, search, prefix, "--limit", 1)
-        self.expect("a part that is cut short", (err, status) == ("", 3) and b'"cause":"limit"' in out.splitlines()[-1],
+        self.expect("a part that is cut short", (err, status) == ("", 3) and '"cause":"limit"' in out.splitlines()[-1],
                     out, err, status)
         others = [line for line in lines if json.loads(line)["under"] != prefix]
         self.refused("one was cut short", path, search, others + [out], "parts: cut short at bound 0 under " + prefix, 3)
@@ -234,26 +217,26 @@ class Tester:
 
     def disagree(self, path, search, prefixes, lines):
         told = json.loads(lines[0])
-        other = json.dumps(dict(told, tried=told["tried"] + 1), sort_keys=True, separators=(",", ":")).encode() + b"\n"
+        other = compact(dict(told, tried=told["tried"] + 1))
         self.refused("two that differ", path, search, lines + [other],
                      "parts: two parts disagree at bound %s under %s" % (told["bound"], told["under"]), 2)
 
     def of_another(self, path, search, other):
         lines = [out for out, _, _ in self.parts(other, search, self.prefixes(other, search, 1))]
         out, err, status = self.join(path, search, lines)
-        self.expect("another guest", (out, err, status) == (b"", "ctxbound: -: another guest under -\n", 2), out, err)
+        self.expect("another guest", (out, err, status) == ("", "ctxbound: -: another guest under -\n", 2), out, err)
 
     def hostile(self, path, search):
         """Each byte of a line is another one, beside the line as it is; and the line ends at each place."""
         lines = [out for out, _, _ in self.parts(path, search, self.prefixes(path, search, 3))]
         line = max((one for out in lines for one in out.splitlines()), key=len)
         wanted = self.join(path, search, lines)
-        changed = [(at, line[:at] + bytes([byte]) + line[at + 1:]) for at in range(len(line))
+        changed = [(at, line[:at] + text_of(bytes([byte])) + line[at + 1:]) for at in range(len(line))
                    for byte in (0, 9, 34, 44, 45, 48, 57, 92, 120, 125, 128, 255)]
         cut = [(at, line[:at]) for at in range(1, len(line))]
-        tried = self.pool.map(lambda one: self.join(path, search, lines + [one[1] + b"\n"]), changed + cut)
+        tried = self.pool.map(lambda one: self.join(path, search, lines + [one[1] + "\n"]), changed + cut)
         for (at, text), got in zip(changed + cut, tried):
-            is_refused = (got[0], got[2]) == (b"", 2) and got[1].startswith("ctxbound: ") and got[1].count("\n") == 1
+            is_refused = (got.out, got.status) == ("", 2) and got[1].startswith("ctxbound: ") and got[1].count("\n") == 1
             self.expect("a line with another byte at %d" % at, is_refused or got == wanted, text, got)
             if len(text) < len(line):
                 self.expect("a line that ends at %d is taken" % at, is_refused, text, got)
@@ -262,12 +245,12 @@ class Tester:
         """Lines and texts that are refused by their first bad line, and what there is where none is bad."""
         for why, changes in NO_LINES.items():
             for old, new in changes:
-                self.refused("%s is %s" % (old, new), path, search, [LINE.replace(old, new, 1).encode()], "-:1: " + why, 2)
+                self.refused("%s is %s" % (old, new), path, search, [LINE.replace(old, new, 1)], "-:1: " + why, 2)
         for text, told, status in (
                 ("", "parts: nothing under -", 3), ("\n \n\t\r\n", "parts: nothing under -", 3),
                 ("%s", "-: another guest under 0", 2), ("%s\n\n%s\r\n", "-: another guest under 0", 2),
                 ("\n%s\n{}\nx", "-:3: no key under", 2), ("%s %s", "-:1: no JSON", 2)):
-            self.refused("lines as %r" % text, path, search, [text.replace("%s", LINE).encode()], told, status)
+            self.refused("lines as %r" % text, path, search, [text.replace("%s", LINE)], told, status)
 
     # ---- words
 
@@ -277,39 +260,38 @@ class Tester:
                       ["explain", path, "--under", "-"], ["join"], ["join", path, "--bound", "1", "--unbounded"],
                       ["join", path, "--bound", "65"], ["join", path, "--workers", "2"], ["join", "-"],
                       ["join", "-", "-"], ["join", "-", "a", "-"]):
-            out, err, status = self.asked(*words)
-            self.expect("%s: taken" % words, (status, out) == (2, b"") and err, out, err)
+            out, err, status = self.run(*words)
+            self.expect("%s: taken" % words, (status, out) == (2, "") and err, out, err)
         for prefix, told in (("0,", "Q1"), ("x", "Q1"), ("99", "P1 NoSuchThread at 0"), ("0x99", "P2 NotEnabled at ")):
-            out, err, status = self.asked("explore", path, "--under", prefix)
-            self.expect("under %s" % prefix, (out, status) == (b"", 2) and err.startswith("ctxbound: schedule " + told),
+            out, err, status = self.run("explore", path, "--under", prefix)
+            self.expect("under %s" % prefix, (out, status) == ("", 2) and err.startswith("ctxbound: schedule " + told),
                         out, err)
-        self.expect("no file", self.asked("explore", "no/such", "--under", "-") == (
-            b"", "ctxbound: no/such: No such file or directory (os error 2)\n", 4))
-        self.expect("no program", self.asked("explore", "-", "--under", "-", text=b"var") == (
-            b"", "ctxbound: syntax S3 Expected at 1:4\n", 2))
-        self.expect("a program from standard input", self.asked("explore", "-", "--under", "1", text=path.read_bytes())
-                    == self.asked("explore", path, "--under", "1"))
+        self.expect("no file", self.run("explore", "no/such", "--under", "-") == (
+            "", "ctxbound: no/such: No such file or directory (os error 2)\n", 4))
+        self.expect("no program", self.run("explore", "-", "--under", "-", given="var") == (
+            "", "ctxbound: syntax S3 Expected at 1:4\n", 2))
+        self.expect("a program from standard input", self.run("explore", "-", "--under", "1", given=path.read_bytes())
+                    == self.run("explore", path, "--under", "1"))
 
     def files(self, path, search):
         """Parts in files, beside standard input and with blank lines."""
         outs = [out for out, _, _ in self.parts(path, search, self.prefixes(path, search, 3))]
-        wanted = self.asked(search.command, path, *search.words)
+        wanted = self.run(search.command, path, *search.words)
         named = []
         for at, out in enumerate(outs):
-            named.append(self.folder / ("%d.part" % at))
-            named[-1].write_bytes(b"\n" * at + out)
-        self.expect("files", self.asked("join", path, *named, *search.joined) == wanted)
+            named.append(self.write("%d.part" % at, "\n" * at + out))
+        self.expect("files", self.run("join", path, *named, *search.joined) == wanted)
         self.expect("files and standard input",
-                    self.asked("join", path, "-", *named[1:], *search.joined, text=outs[0]) == wanted)
+                    self.run("join", path, "-", *named[1:], *search.joined, given=outs[0]) == wanted)
         self.expect("the guest from standard input",
-                    self.asked("join", "-", *named, *search.joined, text=path.read_bytes()) == wanted)
-        named[1].write_bytes(b"\n\n" + outs[1][:-5] + b"\n")
-        out, err, status = self.asked("join", path, *named, *search.joined)
-        self.expect("the place of what is refused", (out, status) == (b"", 2) and err.startswith(
-            "ctxbound: %s:%d: " % (named[1], 2 + outs[1].count(b"\n"))) and err.count("\n") == 1, err)
+                    self.run("join", "-", *named, *search.joined, given=path.read_bytes()) == wanted)
+        named[1].write_text("\n\n" + outs[1][:-5] + "\n")
+        out, err, status = self.run("join", path, *named, *search.joined)
+        self.expect("the place of what is refused", (out, status) == ("", 2) and err.startswith(
+            "ctxbound: %s:%d: " % (named[1], 2 + outs[1].count("\n"))) and err.count("\n") == 1, err)
         gone = self.folder / "gone.part"
-        self.expect("a file that isn't there", self.asked("join", path, gone, *search.joined) == (
-            b"", "ctxbound: %s: No such file or directory (os error 2)\n" % gone, 4))
+        self.expect("a file that isn't there", self.run("join", path, gone, *search.joined) == (
+            "", "ctxbound: %s: No such file or directory (os error 2)\n" % gone, 4))
 
     def notices(self):
         """That another schedule, end, count or bound makes another line."""
@@ -320,34 +302,21 @@ class Tester:
             self.expect("%s isn't noticed" % (other,), levels([other, one._replace(preemptions=0)], 1, (0,), b"") != wanted)
         self.expect("too few lines were compared", self.lines > 300, self.lines)
 
-
-def main():
-    parser = argparse.ArgumentParser(usage="tests/parts.py BINARY [--programs N] [--seed S]")
-    parser.add_argument("binary", type=Path)
-    parser.add_argument("--programs", type=int, default=200)
-    parser.add_argument("--seed", type=int, default=1)
-    given = parser.parse_args()
-    with tempfile.TemporaryDirectory() as folder:
-        tester = Tester(str(given.binary.resolve(strict=True)), random.Random(given.seed), Path(folder))
-        paths = [path for folder in FOLDERS for path in sorted((ROOT / folder).glob("*.guest"))]
-        maker = Maker(tester.chance)
-        for number in range(given.programs):
-            paths.append(tester.folder / ("made%d.guest" % number))
-            paths[-1].write_text(maker.guest())
+    def test(self):
+        paths, maker = guests(), Maker(self.chance)
+        paths += [self.write("made%d.guest" % number, maker.guest()) for number in range(self.given.programs)]
         for path in paths:
-            tester.guest(path)
-        first, fixed = ROOT / "examples" / "first.guest", ROOT / "examples" / "lost_update_fixed.guest"
-        tester.missing(fixed, search_of(2))
-        tester.of_another(fixed, search_of(2), first)
-        tester.no_lines(first, search_of(2))
+            self.guest(path)
+        first, fixed = EXAMPLES / "first.guest", EXAMPLES / "lost_update_fixed.guest"
+        self.missing(fixed, search_of(2))
+        self.of_another(fixed, search_of(2), first)
+        self.no_lines(first, search_of(2))
         for bound in (2, None):
-            tester.hostile(first, search_of(bound))
-            tester.files(first, search_of(bound))
-        tester.words(first)
-        tester.notices()
-    print("%d passed, %d failed" % (tester.passed, tester.failed))
-    raise SystemExit(1 if tester.failed or not tester.passed else 0)
+            self.hostile(first, search_of(bound))
+            self.files(first, search_of(bound))
+        self.words(first)
+        self.notices()
 
 
 if __name__ == "__main__":
-    main()
+    Parts.main(programs=200, seed=1)

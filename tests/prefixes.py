@@ -12,23 +12,15 @@ interpreter of tests/simulator.py, which shares no code with the program; who sl
   all are complete; and one step shorter there are fewer.
 - Words that ask for nothing are refused, a text is read from standard input, too, and a cover that lacks a line, or has
   one beside its beginning, is noticed.
-
-The last line is `N passed, M failed`.
 """
-import argparse
-import random
-import subprocess
-import tempfile
-from pathlib import Path
-
-from simulator import FOLDERS, PARTS, ROOT, Guest, Maker, Run, schedule_of
+from program import EXAMPLES, Tester, guests, schedule_of
+from simulator import PARTS, Guest, Maker, Run
 
 COUNTS = (1, 7, 64, 1000)
 MOST_SCHEDULES = 400
 MOST_STEPS = 30000
 DRAWN = 20
 TRIED_LINES = 60
-SECONDS = 60
 
 
 class TooMany(Exception):
@@ -98,21 +90,7 @@ def begun(lines, schedule):
     return sum(schedule[:length] in lines for length in range(len(schedule) + 1))
 
 
-class Tester:
-    def __init__(self, binary, chance):
-        self.binary, self.chance, self.passed, self.failed = binary, chance, 0, 0
-
-    def expect(self, what, holds, detail=""):
-        self.passed += bool(holds)
-        self.failed += not holds
-        if not holds:
-            print("%s\n    %s" % (what, detail))
-
-    def asked(self, *words, text=None):
-        done = subprocess.run([self.binary, "prefixes", *words], input=text, capture_output=True, text=True,
-                              timeout=SECONDS)
-        return done.stdout, done.stderr, done.returncode
-
+class Prefixes(Tester):
     def guest(self, path):
         guest = Guest(path.read_text())
         for pruned in (False, True):
@@ -125,10 +103,10 @@ class Tester:
                 self.listing(guest, path, pruned, count, all_nodes, wholes)
 
     def listing(self, guest, path, pruned, count, all_nodes, wholes):
-        words = [str(path), "--at-least", str(count)] + ["--unbounded"] * pruned
-        out, err, status = self.asked(*words)
-        name = " ".join(["prefixes"] + words)
-        self.expect(name, status == 0 and not err, (err, status))
+        words = [path, "--at-least", count] + ["--unbounded"] * pruned
+        out, err, status = self.run("prefixes", *words)
+        name = " ".join(map(str, ["prefixes", *words]))
+        self.expect(name, status == 0 and not err, err, status)
         lines = [tuple(schedule_of(line)) for line in out.splitlines()]
         known = set(lines)
         self.expect(name + ": rising", lines == sorted(known) and out.endswith("\n"), lines[:9])
@@ -161,16 +139,16 @@ class Tester:
     def words(self, path):
         for words in ([], ["a", "b"], ["a", "--at-least", "0"], ["a", "--at-least", "1048577"], ["a", "--bound", "1"],
                       ["a", "--at-least", "x"], ["a", "--at-least"]):
-            out, err, status = self.asked(*words)
-            self.expect("prefixes %s: taken" % words, (status, out) == (2, "") and err, (out, err))
+            out, err, status = self.run("prefixes", *words)
+            self.expect("prefixes %s: taken" % words, (status, out) == (2, "") and err, out, err)
         text = path.read_text()
-        self.expect("standard input", self.asked("-", text=text) == self.asked(str(path)), path)
-        self.expect("the count that is asked for", self.asked(str(path)) == self.asked(str(path), "--at-least", "64"))
-        self.expect("the greatest count", self.asked(str(path), "--at-least", "1048576")[2] == 0)
-        self.expect("no file", self.asked("no/such/file")[1:] == (
-            "ctxbound: no/such/file: No such file or directory (os error 2)\n", 4), self.asked("no/such/file"))
-        self.expect("a refused text", self.asked("-", text="var")[1:] == ("ctxbound: syntax S3 Expected at 1:4\n", 2),
-                    self.asked("-", text="var"))
+        self.expect("standard input", self.run("prefixes", "-", given=text) == self.run("prefixes", path), path)
+        self.expect("the count that is asked for", self.run("prefixes", path) == self.run("prefixes", path, "--at-least", "64"))
+        self.expect("the greatest count", self.run("prefixes", path, "--at-least", "1048576")[2] == 0)
+        self.expect("no file", self.run("prefixes", "no/such/file")[1:] == (
+            "ctxbound: no/such/file: No such file or directory (os error 2)\n", 4), self.run("prefixes", "no/such/file"))
+        self.expect("a refused text", self.run("prefixes", "-", given="var")[1:] == ("ctxbound: syntax S3 Expected at 1:4\n", 2),
+                    self.run("prefixes", "-", given="var"))
 
     def notices(self):
         """That a list which is no cover is noticed."""
@@ -178,28 +156,15 @@ class Tester:
         for lines, told in ((cover, 1), (cover - {(0, 1)}, 0), (cover | {(0,)}, 2)):
             self.expect("lines that are no cover", begun(lines, (0, 1, 0)) == told, lines)
 
-
-def main():
-    parser = argparse.ArgumentParser(usage="tests/prefixes.py BINARY [--programs N] [--seed S]")
-    parser.add_argument("binary", type=Path)
-    parser.add_argument("--programs", type=int, default=100)
-    parser.add_argument("--seed", type=int, default=1)
-    given = parser.parse_args()
-    tester = Tester(str(given.binary.resolve(strict=True)), random.Random(given.seed))
-    paths = [path for folder in FOLDERS for path in sorted((ROOT / folder).glob("*.guest"))]
-    for path in paths:
-        tester.guest(path)
-    maker = Maker(tester.chance)
-    with tempfile.TemporaryDirectory() as folder:
-        for number in range(given.programs):
-            path = Path(folder) / ("made%d.guest" % number)
-            path.write_text(maker.guest())
-            tester.guest(path)
-    tester.words(ROOT / "examples" / "first.guest")
-    tester.notices()
-    print("%d passed, %d failed" % (tester.passed, tester.failed))
-    raise SystemExit(1 if tester.failed or not tester.passed else 0)
+    def test(self):
+        for path in guests():
+            self.guest(path)
+        maker = Maker(self.chance)
+        for number in range(self.given.programs):
+            self.guest(self.write("made%d.guest" % number, maker.guest()))
+        self.words(EXAMPLES / "first.guest")
+        self.notices()
 
 
 if __name__ == "__main__":
-    main()
+    Prefixes.main(programs=100, seed=1)

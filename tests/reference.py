@@ -5,24 +5,20 @@ Makes small guest programs at random, of the whole language, and compares what B
 with the definitions: all complete schedules of the program are listed, filtered and summed here, with
 no bound on a walk, no book, no undoing and no worker. It stops after N programs (300), or after M
 minutes. The same seed makes the same programs. A program that is answered wrongly is printed with the
-command and both answers. The last line is `N passed, M failed`.
+command and both answers.
 """
-import argparse
 import json
-import os
 import random
-import subprocess
-import sys
-import tempfile
 import time
 from collections import namedtuple
+
+from program import Tester, compact, schedule_text
 
 BOUNDS = (0, 1, 2, 3, 4, 64)
 WORKERS = (1, 2, 3, 8, 16)
 MOST_SCHEDULES = 1500
 MOST_OF_LARGE = 100000
 MOST_COUNT = 65535
-SECONDS = 60
 
 # ---- the language: instructions, states, steps
 
@@ -253,18 +249,6 @@ def is_bad(complete):
     return complete.kind != "done"
 
 
-def spelled(schedule):
-    """A schedule's text, with the longest runs."""
-    pieces, at = [], 0
-    while at < len(schedule):
-        until = at
-        while until < len(schedule) and schedule[until] == schedule[at]:
-            until += 1
-        pieces.append("%d" % schedule[at] + ("x%d" % (until - at) if until - at > 1 else ""))
-        at = until
-    return ",".join(pieces) or "-"
-
-
 def summary(completes):
     views = sorted({(c.kind, c.values) for c in completes})
     return {"tried": len(completes), "failed": sum(c.kind == "failed" for c in completes),
@@ -279,7 +263,7 @@ def report_of(completes, bound, is_whole, everything):
     if bad:
         first = min(bad, key=lambda c: c.schedule)
         return dict(report, verdict="bad", kind=first.kind, preemptions=first.preemptions,
-                    schedule=spelled(first.schedule))
+                    schedule=schedule_text(first.schedule))
     return dict(report, verdict="clean", all=is_whole)
 
 
@@ -319,7 +303,7 @@ def is_cut_short(answer, limit, everything, last):
     """Whether a search up to a bound may be cut short with this answer."""
     bound, finished = answer["bound"], answer["finished"]
     within = [c for c in everything if c.preemptions <= bound]
-    bad = [spelled(c.schedule) for c in within if is_bad(c)]
+    bad = [schedule_text(c.schedule) for c in within if is_bad(c)]
     below = -1 if finished is None else finished
     return answer["verdict"] == "incomplete" and answer["cause"] == "limit" \
         and limit <= answer["tried"] and is_within(answer, summary(within)) and bound <= last \
@@ -516,30 +500,22 @@ LARGE = [
 
 # ---- comparing
 
-class Comparer:
-    def __init__(self, binary, folder):
-        self.binary, self.file = binary, os.path.join(folder, "program.guest")
-        self.passed = self.failed = 0
-        self.text = ""
+class Comparer(Tester):
+    text = ""
 
-    def run(self, command, words):
-        words = [self.binary, command, self.file] + words
-        done = subprocess.run(words, capture_output=True, timeout=SECONDS)
-        return done.stdout.decode() + done.stderr.decode(), done.returncode
+    def asked(self, command, words):
+        out, err, status = self.run(command, "program.guest", *words)
+        return out + err, status
 
     def check(self, is_right, words, printed, wanted):
-        self.passed, self.failed = self.passed + is_right, self.failed + (not is_right)
-        if not is_right:
-            print("%s\n$ ctxbound %s\n  printed: %s\n  defined: %s"
-                  % (self.text, words, printed, wanted), flush=True)
+        self.expect("%s\n$ ctxbound %s" % (self.text, words), is_right, "printed: %s" % (printed,), "defined: %s" % (wanted,))
 
     def search(self, command, words, is_right, wanted):
-        printed, status = self.run(command, words)
+        printed, status = self.asked(command, words)
         try:
             answer = json.loads(printed)
             states = {"clean": 0, "bad": 1, "incomplete": 3}
-            is_compact = printed == json.dumps(answer, sort_keys=True, separators=(",", ":")) + "\n"
-            fine = is_compact and status == states[answer["verdict"]] and is_right(answer)
+            fine = printed == compact(answer) and status == states[answer["verdict"]] and is_right(answer)
         except (ValueError, KeyError):
             fine = False
         self.check(fine, " ".join([command, "program.guest"] + words), printed, json.dumps(wanted))
@@ -567,8 +543,8 @@ class Comparer:
             wrong = cut + (chance.randrange(len(program.threads) + 1),) + schedule[len(cut):]
             for asked in (schedule, cut, wrong):
                 wanted = trace_of(program, asked)
-                printed = self.run("replay", [spelled(asked)])
-                self.check(printed == wanted, "replay program.guest " + spelled(asked), printed, wanted)
+                printed = self.asked("replay", [schedule_text(asked)])
+                self.check(printed == wanted, "replay program.guest " + schedule_text(asked), printed, wanted)
 
     def guest(self, guest, seed, most=MOST_SCHEDULES):
         """Compares all that is asked of one program; False where it has too many schedules."""
@@ -577,33 +553,22 @@ class Comparer:
             everything = all_complete(program, most)
         except TooMany:
             return False
-        with open(self.file, "w") as file:
-            file.write(self.text)
+        self.write("program.guest", self.text)
         chance = random.Random(seed)
         self.searches(program, everything, chance)
         self.replays(program, everything, chance)
         return True
 
-
-def main():
-    words = argparse.ArgumentParser(description=__doc__, formatter_class=argparse.RawTextHelpFormatter)
-    words.add_argument("binary")
-    words.add_argument("--programs", type=int, default=300)
-    words.add_argument("--seed", type=int, default=1)
-    words.add_argument("--minutes", type=float, default=None)
-    asked = words.parse_args()
-    until = time.monotonic() + 60 * asked.minutes if asked.minutes else None
-    with tempfile.TemporaryDirectory() as folder:
-        comparer, compared, seed = Comparer(os.path.abspath(asked.binary), folder), 0, 1000003 * asked.seed
+    def test(self):
+        until = time.monotonic() + 60 * self.given.minutes
+        compared, seed = 0, 1000003 * self.given.seed
         for guest in LARGE:
-            comparer.guest(guest, seed, MOST_OF_LARGE)
-        while (time.monotonic() < until) if until else (compared < asked.programs):
-            compared += comparer.guest(Maker(seed), seed)
+            self.guest(guest, seed, MOST_OF_LARGE)
+        while time.monotonic() < until if self.given.minutes else compared < self.given.programs:
+            compared += self.guest(Maker(seed), seed)
             seed += 1
-    print("%d programs, and %d large ones" % (compared, len(LARGE)))
-    print("%d passed, %d failed" % (comparer.passed, comparer.failed))
-    sys.exit(1 if comparer.failed or not comparer.passed else 0)
+        print("%d programs, and %d large ones" % (compared, len(LARGE)))
 
 
 if __name__ == "__main__":
-    main()
+    Comparer.main(programs=300, seed=1, minutes=0.0)

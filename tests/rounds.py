@@ -4,19 +4,13 @@
 PROGRAM is `ctxbound`. TOOLS is the program of the crate `tools`, which searches a guest by a gate that writes
 down who is asked about which item, and when a round ends. Expected numbers are counted by hand: n threads
 of one step each have n! complete schedules, all without a preemption; where a walk tries one schedule,
-there are as many walks as schedules. The last line is `N passed, M failed`.
+there are as many walks as schedules.
 """
-import glob
 import json
 import math
-import os
-import subprocess
-import sys
-import tempfile
 
-HERE = os.path.dirname(os.path.abspath(__file__))
-EXAMPLES = sorted(glob.glob(os.path.join(HERE, "..", "examples", "**", "*.guest"), recursive=True))
-SECONDS = 120
+from program import ROOT, Tester, guests, refusing, run, run_refused
+
 FULL = 64
 KEPT = ("bound", "kind", "preemptions", "schedule", "verdict")
 NAMES = "ABCDEFGHIJKLMNOP"
@@ -129,41 +123,26 @@ WORKED = [
 ]
 
 
-class Trial:
-    def __init__(self, program, tools, folder):
-        self.program, self.tools, self.folder = program, tools, folder
-        self.passed, self.failed, self.made = 0, 0, 0
+class Rounds(Tester):
+    seconds = 120
+    texts = GUESTS
 
     def check(self, holds, *what):
-        """Counts a comparison, and tells of one that fails."""
-        self.passed, self.failed = self.passed + bool(holds), self.failed + (not holds)
-        if not holds:
-            print(*what, flush=True)
-
-    def run(self, words, size=0):
-        """What a run writes and its status. Where a size is given each request for so many bytes is refused, and
-        `made` is how many threads the run made."""
-        told, tells = os.pipe()
-        # The library is named from its folder, since no blank may be in what is preloaded.
-        env = dict(os.environ, LD_PRELOAD="./fail_alloc.so", FAIL_SIZE=str(size), TOLD_FD=str(tells)) if size else None
-        try:
-            done = subprocess.run(words, capture_output=True, timeout=SECONDS, env=env, pass_fds=[tells],
-                                  cwd=self.folder)
-        finally:
-            os.close(tells)
-            with os.fdopen(told, "rb") as file:
-                self.made = file.read().count(b"t")
-        return done.stdout, done.stderr, done.returncode
+        self.expect(" ".join(map(str, what)), holds)
 
     def heard(self, guest, search, workers, quota=1, limit=0, quick=False, does=("open", 0), size=0):
-        """The rounds that the gate heard of, and the report; none where memory is refused."""
-        words = [self.tools, "rounds", os.path.join(self.folder, guest), str(search), "quick" if quick else "whole",
-                 str(workers), str(quota), str(limit), does[0], str(does[1])]
-        out, err, status = self.run(words, size)
+        """The rounds that the gate heard of, and the report; none where memory is refused. Where a size is given each request
+        for so many bytes is refused, and `made` is how many threads the run made."""
+        words = [self.given.tools, "rounds", guest, search, "quick" if quick else "whole", workers, quota, limit, *does]
+        if size:
+            (out, err, status), told = run_refused(words, self.folder, self.seconds, FAIL_SIZE=str(size))
+            self.made = told.count("t")
+        else:
+            out, err, status = run(words, seconds=self.seconds, cwd=self.folder)
         if status:
-            self.check(size, " ".join(words), "ended with status", status, err)
+            self.check(size, *words, "ended with status", status, err)
             return [], {}
-        *lines, report = out.decode("ascii").split("\n")[:-1]
+        *lines, report = out.split("\n")[:-1]
         rounds, now = [], []
         for line in lines:
             kind, *numbers = line.split()
@@ -179,7 +158,13 @@ class Trial:
     def search(self, guest, *words):
         """What `ctxbound` writes and its status."""
         command, *others = words
-        return self.run([self.program, command, os.path.join(self.folder, guest)] + [str(word) for word in others])
+        return self.run(command, guest, *others)
+
+    def test(self):
+        refusing(self.folder)
+        for part in (full_rounds, own_rounds, wide, side_by_side, every_size, stops, gates, longest, without_board, hints,
+                     limits, bounds, worked, words, examples):
+            part(self)
 
 
 def items(events, *kinds):
@@ -495,14 +480,15 @@ def bounds(trial):
 
 def examples(trial):
     """Each example, within one preemption and without a bound: one report, whatever the workers and the quota."""
-    for guest in EXAMPLES:
+    every = guests("examples", "examples/real")
+    for guest in every:
         for search, asked in ((1, ["explore", "--bound", 1]), ("unbounded", ["unbounded"])):
             wanted = json.loads(trial.search(guest, asked[0], *asked[1:])[0])
             for workers in (1, 2, 3, 8, 16):
                 for quota in (1, 3, 256):
                     _, report = trial.heard(guest, search, workers, quota)
                     trial.check(report == wanted, guest, workers, "workers, quota", quota, report, wanted)
-    trial.check(len(EXAMPLES) > 60, "few examples:", len(EXAMPLES))
+    trial.check(len(every) > 60, "few examples:", len(every))
 
 
 def worked(trial):
@@ -522,8 +508,8 @@ def words(trial):
                                   ("threads8", ["--bound", 0, "--quick", "--limit", 1], 3)):
         answers = [trial.search(guest, "explore", "--workers", workers, *others) for workers in range(1, 17)]
         for workers, (out, err, status) in enumerate(answers, 1):
-            report = json.loads(out or b"{}")
-            trial.check(status == wanted and err == b"", guest, others, workers, "workers:", status, err)
+            report = json.loads(out or "{}")
+            trial.check(status == wanted and err == "", guest, others, workers, "workers:", status, err)
             trial.check(report.get("quick", False) == ("--quick" in others), guest, workers, report)
             same = {key: report.get(key) for key in KEPT}
             trial.check(same == {key: json.loads(answers[0][0]).get(key) for key in KEPT}, guest, workers, report)
@@ -535,33 +521,15 @@ def words(trial):
     out, _, status = trial.search("ends", "explore", "--bound", 64)
     trial.check(status == 0 and len(out) > 2048 and len(json.loads(out)["ends"]) == 64, "a long report:", len(out))
     out, _, status = trial.search("long", "replay", "0x1000,1x1000")
-    trial.check(status == 0 and len(out) > 2**14 and out.count(b"\n") == 2003, "a long trace:", len(out))
-    out, err, _ = trial.run([trial.program, "--version"])
-    with open(os.path.join(HERE, "..", "share", "vscode", "package.json"), encoding="utf-8") as file:
-        trial.check(out + err == b"ctxbound %s\n" % json.load(file)["version"].encode(), "--version:", out + err)
+    trial.check(status == 0 and len(out) > 2**14 and out.count("\n") == 2003, "a long trace:", len(out))
+    out, err, _ = trial.run("--version")
+    version = json.loads((ROOT / "share/vscode/package.json").read_text(encoding="utf-8"))["version"]
+    trial.check(out + err == "ctxbound %s\n" % version, "--version:", out + err)
     report = trial.search("race", "explore")
     for length in [2**k + more for k in range(8, 17) for more in (-1, 0, 1) if 2**k + more <= 65536]:
-        with open(trial.folder + "/padded", "w", encoding="ascii") as file:
-            file.write(GUESTS["race"].ljust(length))
+        trial.write("padded", GUESTS["race"].ljust(length))
         trial.check(trial.search("padded", "explore") == report, "a text of", length, "bytes")
 
 
-def main(program, tools):
-    with tempfile.TemporaryDirectory() as folder:
-        for name, text in GUESTS.items():
-            with open(os.path.join(folder, name), "w", encoding="ascii") as file:
-                file.write(text)
-        subprocess.run([os.environ.get("CC", "cc"), "-shared", "-fPIC", "-O1", "-o", folder + "/fail_alloc.so",
-                        os.path.join(HERE, "fail_alloc.c"), "-ldl"], check=True)
-        trial = Trial(os.path.abspath(program), os.path.abspath(tools), folder)
-        for part in (full_rounds, own_rounds, wide, side_by_side, every_size, stops, gates, longest, without_board, hints,
-                     limits, bounds, worked, words, examples):
-            part(trial)
-    print("%d passed, %d failed" % (trial.passed, trial.failed))
-    return 1 if trial.failed else 0
-
-
 if __name__ == "__main__":
-    if len(sys.argv) != 3:
-        sys.exit(__doc__)
-    sys.exit(main(*sys.argv[1:]))
+    Rounds.main("tools")

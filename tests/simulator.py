@@ -15,24 +15,14 @@ its statements. Its flat code is laid out only to say what a test passes over.
 - Each field must have been seen with two values at least, so that no guest is too poor to show a
   constant one; and the comparison must notice each field of an explanation that is changed, left out or
   put in, one at a time.
-
-The last line is `N passed, M failed`.
 """
-import argparse
 import copy
 import json
-import os
-import random
 import re
-import subprocess
-import sys
-import tempfile
-from pathlib import Path
 
-ROOT = Path(__file__).resolve().parent.parent
-SECONDS = 60
+from program import EXAMPLES, ROOT, Tester, compact, guests, schedule_of, schedule_text
+
 MOST_COUNT = 65535
-FOLDERS = ("examples", "examples/real", "tests/explain")
 
 # ---- the text of a guest
 
@@ -679,23 +669,6 @@ class Run:
         return found
 
 
-def schedule_text(schedule):
-    """The schedule with the longest runs."""
-    runs = []
-    for number in schedule:
-        if runs and runs[-1][0] == number:
-            runs[-1][1] += 1
-        else:
-            runs.append([number, 1])
-    return ",".join("%d" % n if count == 1 else "%dx%d" % (n, count) for n, count in runs) or "-"
-
-
-def schedule_of(text):
-    """The schedule that a text of runs spells."""
-    return [int(number) for number, _, count in (run.partition("x") for run in text.split(",") if run != "-")
-            for _ in range(int(count or 1))]
-
-
 def explanation(name, text, schedule, search):
     """What is to be told of a schedule, and the status."""
     run = Run(Guest(text))
@@ -909,10 +882,6 @@ def differences(got, want, at=""):
     return [] if got == want else ["%s: %r, not %r" % (at, got, want)]
 
 
-def spelled(told):
-    return json.dumps(told, sort_keys=True, separators=(",", ":"), ensure_ascii=False) + "\n"
-
-
 def fields(value, at="", named=False):
     """The fields of a value: each path without places and names of the guest, with what is there."""
     if isinstance(value, dict):
@@ -948,31 +917,17 @@ def at_path(value, path):
     return value
 
 
-class Tester:
-    def __init__(self, binary):
-        self.binary, self.passed, self.failed = binary, 0, 0
-        self.seen = {}
-
-    def expect(self, what, holds, detail=()):
-        self.passed += bool(holds)
-        self.failed += not holds
-        if not holds:
-            print("\n".join([what, *detail]))
-
-    def run(self, *words):
-        done = subprocess.run([self.binary, *words], cwd=ROOT, stdin=subprocess.DEVNULL, stdout=subprocess.PIPE,
-                              stderr=subprocess.PIPE, timeout=SECONDS)
-        return done.returncode, done.stdout.decode(), done.stderr.decode()
+class Explanations(Tester):
+    seen = {}
 
     def compare(self, name, words, want):
         told, status = want
-        got = self.run("explain", name, *words, "--json")
-        if got != (status, spelled(told), ""):
-            found = differences(json.loads(got[1]), told) if got[1].startswith("{") else [got[1]]
-            self.expect("explain %s %s" % (name, " ".join(words)), False,
-                        ["status %d, not %d" % (got[0], status), got[2], *found[:8]])
+        got = self.run("explain", name, *words, "--json", cwd=ROOT)
+        is_so = got == (compact(told), "", status)
+        found = [] if is_so else differences(json.loads(got.out), told) if got.out.startswith("{") else [got.out]
+        self.expect("explain %s %s" % (name, " ".join(words)), is_so, "status %d, not %d" % (got.status, status), got.err, *found[:8])
+        if not is_so:
             return
-        self.passed += 1
         for at, value in fields(told):
             self.seen.setdefault(at, set()).add(value)
 
@@ -981,8 +936,7 @@ class Tester:
 
     def searched(self, name, text):
         """A schedule that a search finds, with the report of that search."""
-        _, report, _ = self.run("explore", name)
-        report = json.loads(report)
+        report = json.loads(self.run("explore", name, cwd=ROOT).out)
         if report["verdict"] == "bad":
             self.compare(name, [], explanation(name, text, schedule_of(report["schedule"]), report))
         else:
@@ -1012,42 +966,27 @@ class Tester:
                 else:
                     holder.append(None)
                 found = differences(other, told)
-                self.expect("%s is %s, and isn't noticed" % (path, change), found and spelled(other) != spelled(told))
+                self.expect("%s is %s, and isn't noticed" % (path, change), found and compact(other) != compact(told))
 
-
-def main():
-    parser = argparse.ArgumentParser(usage="tests/simulator.py BINARY [--programs N] [--seed S]")
-    parser.add_argument("binary", type=Path)
-    parser.add_argument("--programs", type=int, default=300)
-    parser.add_argument("--seed", type=int, default=1)
-    given = parser.parse_args()
-    tester = Tester(str(given.binary.resolve(strict=True)))
-    chance = random.Random(given.seed)
-    maker = Maker(chance)
-    for folder in FOLDERS:
-        for path in sorted((ROOT / folder).glob("*.guest")):
+    def test(self):
+        maker = Maker(self.chance)
+        for path in guests():
             name, text = str(path.relative_to(ROOT)), path.read_text()
-            tester.searched(name, text)
+            self.searched(name, text)
             for _ in range(4):
-                tester.explained(name, text, maker.schedule(Guest(text)))
-    with tempfile.TemporaryDirectory() as folder:
+                self.explained(name, text, maker.schedule(Guest(text)))
         for number, (text, schedule) in enumerate(SHAPES):
-            name = os.path.join(folder, "shape%d.guest" % number)
-            Path(name).write_text(text)
-            tester.explained(name, text, schedule_of(schedule))
-        for number in range(given.programs):
+            self.explained(str(self.write("shape%d.guest" % number, text)), text, schedule_of(schedule))
+        for number in range(self.given.programs):
             text = maker.guest()
-            name = os.path.join(folder, "made%d.guest" % number)
-            Path(name).write_text(text)
+            name = str(self.write("made%d.guest" % number, text))
             for _ in range(3):
-                tester.explained(name, text, maker.schedule(Guest(text)))
-    tester.every_field()
-    for name, schedule in (("deadlock4", "0x4,2x3"), ("check_then_act", "0x3,1x7,0x4")):
-        text = '#line 7 "%s.m4"\n' % name + (ROOT / "examples" / (name + ".guest")).read_text()
-        tester.notices(explanation(name, text, schedule_of(schedule), None)[0])
-    print("%d passed, %d failed" % (tester.passed, tester.failed))
-    raise SystemExit(1 if tester.failed or not tester.passed else 0)
+                self.explained(name, text, maker.schedule(Guest(text)))
+        self.every_field()
+        for name, schedule in (("deadlock4", "0x4,2x3"), ("check_then_act", "0x3,1x7,0x4")):
+            text = '#line 7 "%s.m4"\n' % name + (EXAMPLES / (name + ".guest")).read_text()
+            self.notices(explanation(name, text, schedule_of(schedule), None)[0])
 
 
 if __name__ == "__main__":
-    main()
+    Explanations.main(programs=300, seed=1)
