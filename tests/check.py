@@ -13,9 +13,8 @@ import os
 import pty
 import re
 import subprocess
-import sys
-import tempfile
-from pathlib import Path
+
+from program import Tester, guests
 
 SHOWN = 92  # how many bytes of a line are shown
 PIECE = re.compile(r"[ \t\r\n]+|#[^\n]*|([A-Za-z_]\w*|\d+|==|!=|<=|>=|.)", re.S | re.A)
@@ -610,22 +609,15 @@ def block(data, line, column, length):
     return ["%5d | %s" % (line, seen), "      | " + " " * (column - 1 - start) + "^" * length]
 
 
-class Checker:
-    def __init__(self, binary, folder):
-        self.binary, self.folder, self.count, self.failures = binary, Path(folder), 0, 0
+class Checks(Tester):
+    def told(self, text, *words):
+        """The status of a check of a text, and what it writes on both streams."""
+        out, err, status = super().run("check", *words, self.write("text.guest", text))
+        return status, out, err
 
     def run(self, data, *words):
-        path = self.folder / "text.guest"
-        path.write_bytes(data)
-        done = subprocess.run([self.binary, "check", *words, str(path)], capture_output=True,
-                              timeout=60)
-        return done.returncode, done.stderr.decode()
-
-    def expect(self, what, holds, seen):
-        self.count += 1
-        if not holds:
-            self.failures += 1
-            print("%s:\n%s" % (what, seen))
+        status, _, err = self.told(data, *words)
+        return status, err
 
     def place(self, text, length, head, words, status, *options):
         data, line, column = marked(text)
@@ -690,14 +682,11 @@ class Checker:
         data, _, _ = marked(text)
         _, err = self.run(data, "--deep")
         named = re.findall(r"replay: (\S+)$", err, re.M)
-        done = subprocess.run([self.binary, "explain", str(self.folder / "text.guest"), *named, "--json"],
-                              capture_output=True, timeout=60)
+        done = super().run("explain", "text.guest", *named, "--json")
         self.expect("%r: one schedule is named" % text, len(named) == 1, err)
-        told = json.loads(done.stdout)
+        told = json.loads(done.out)
         looped = [t["status"] for t in told["threads"] if t["name"] == "A"]
-        self.expect("%r: %s" % (text, named), told["refused"] is None and looped in (["ended"], ["enabled"]),
-                    done.stdout.decode())
-
+        self.expect("%r: %s" % (text, named), told["refused"] is None and looped in (["ended"], ["enabled"]), done.out)
 
     def crowded(self):
         """In the schedule that is told with W13, both others wait when the signal is sent."""
@@ -727,26 +716,18 @@ class Checker:
         status, err = self.run(b"var x; # allow W5\nthread A { store x 1; }", "--strict")
         self.expect("all is allowed", status == 0 and err == "", err)
 
-    def told(self, text, *words):
-        path = self.folder / "text.guest"
-        path.write_bytes(text.encode())
-        done = subprocess.run([self.binary, "check", *words, str(path)], capture_output=True, timeout=60)
-        return done.returncode, done.stdout.decode(), done.stderr.decode()
-
     def folders(self):
         """Each guest of a folder is told of, and the greatest status is that of the command."""
         folder = self.folder / "guests"
-        folder.mkdir()
         for name, text in (("a", "var x; thread A { }"), ("b", "thread A { lock m; }"),
                            ("c", "var y; thread A { }"), ("d", "thread A { }")):
-            (folder / (name + ".guest")).write_text(text)
+            self.write("guests/%s.guest" % name, text)
         for words in ([str(folder)], [str(folder / (name + ".guest")) for name in "abcd"]):
-            done = subprocess.run([self.binary, "check", "--strict", "--short", *words], capture_output=True,
-                                  timeout=60)
-            lines = [line.split(": ")[0] for line in done.stdout.decode().splitlines()]
+            done = super().run("check", "--strict", "--short", *words)
+            lines = [line.split(": ")[0] for line in done.out.splitlines()]
             want = ["%s/%s.guest:%s" % (folder, name, at) for name, at in
                     (("a", "1:5"), ("b", "1:17"), ("c", "1:5"))]
-            self.expect("a folder: %s" % words, lines == want and done.returncode == 2, done.stdout.decode())
+            self.expect("a folder: %s" % words, lines == want and done.status == 2, done.out)
 
     def forms(self):
         """What is told in short lines and as JSON, on standard output."""
@@ -767,11 +748,9 @@ class Checker:
         _, out, _ = self.told(DEEP[-2][0].replace("^", ""), "--deep", "--remarks", "--json")
         self.expect("a remark", '"severity":"remark"' in out, out)
 
-
     def on_terminal(self, text, *words):
         """What a command writes on standard error where that is a terminal."""
-        path = self.folder / "text.guest"
-        path.write_text(text)
+        path = self.write("text.guest", text)
         ours, theirs = pty.openpty()
         subprocess.run([self.binary, words[0], str(path), *words[1:]], stdout=subprocess.DEVNULL, stderr=theirs,
                        timeout=60)
@@ -796,60 +775,54 @@ class Checker:
         for words in (["replay"], ["explore"], ["unbounded"], ["explain"]):
             seen = self.on_terminal(refused, *words)
             self.expect("%s on a terminal" % words, seen == first + more, seen)
-            done = subprocess.run([self.binary, *words, str(self.folder / "text.guest")], capture_output=True)
-            self.expect("%s in a pipe" % words, done.stderr.decode() == first, done.stderr.decode())
+            done = super().run(*words, "text.guest")
+            self.expect("%s in a pipe" % words, done.err == first, done.err)
         # the schedule is refused, not the text
         seen = self.on_terminal("var x; thread A { store x 1; }", "replay", "5")
         self.expect("a refused schedule", seen == "ctxbound: schedule P1 NoSuchThread at 0\n", seen)
         seen = self.on_terminal(refused, "check")
         self.expect("check on a terminal", "says more" not in seen and seen.startswith(first), seen)
 
-
-def main():
-    with tempfile.TemporaryDirectory() as folder:
-        check = Checker(str(Path(sys.argv[1]).resolve()), folder)
+    def test(self):
         for text, length, head, words in REFUSED:
-            check.place(text, length, head, words, 2)
-            check.pasted(text)
+            self.place(text, length, head, words, 2)
+            self.pasted(text)
         for form, slips in ((IN_THREAD, STATEMENTS), (BEFORE_THREAD, DECLARATIONS), ("%s", TEXTS)):
             for text, *told in slips:
-                check.slip(form % text, *told)
+                self.slip(form % text, *told)
         for text, head, words in WHOLE:
-            status, err = check.run(text.encode())
-            check.expect("%r" % text, status == 2 and words in err
+            status, err = self.run(text.encode())
+            self.expect("%r" % text, status == 2 and words in err
                          and err.startswith("ctxbound: %s\n" % head), err)
         for text, length, name, words, repaired in WARNED:
-            check.place(text, length, "warning %s at" % name, words, 0)
-            check.place(text, length, "warning %s at" % name, "", 1, "--strict")
-            status, err = check.run(repaired.encode(), "--strict")
-            check.expect("%r" % repaired, name not in err, err)
+            self.place(text, length, "warning %s at" % name, words, 0)
+            self.place(text, length, "warning %s at" % name, "", 1, "--strict")
+            status, err = self.run(repaired.encode(), "--strict")
+            self.expect("%r" % repaired, name not in err, err)
         for text in CLEAN:
-            status, err = check.run(text.encode(), "--strict")
-            check.expect("%r" % text, status == 0 and err == "", err)
+            status, err = self.run(text.encode(), "--strict")
+            self.expect("%r" % text, status == 0 and err == "", err)
         for text, length, head, words, options in DEEP:
-            check.place(text, length, "%s at" % head, words, 0, "--deep", *options)
+            self.place(text, length, "%s at" % head, words, 0, "--deep", *options)
             if head == "warning W12 RanOut":
-                check.replays(text)
+                self.replays(text)
         for text, names, options in DEEP_CLEAN:
-            status, err = check.run(text.encode(), "--deep", *options)
-            check.expect("%r" % text, status == 0 and not any(w in err for w in names), err)
+            status, err = self.run(text.encode(), "--deep", *options)
+            self.expect("%r" % text, status == 0 and not any(w in err for w in names), err)
             cut = "W21 CutShort after %s schedule" % options[-1] in err if "--limit" in options else "W21" not in err
-            check.expect("%r: the limit" % text, cut, err)
-        check.crowded()
-        check.in_order()
-        check.allowed()
-        check.forms()
-        check.folders()
-        check.says_more()
-        examples = sorted((Path(__file__).resolve().parent.parent / "examples").glob("*.guest"))
-        for path in examples:
-            status, err = check.run(path.read_bytes())
+            self.expect("%r: the limit" % text, cut, err)
+        self.crowded()
+        self.in_order()
+        self.allowed()
+        self.forms()
+        self.folders()
+        self.says_more()
+        for path in guests("examples"):
+            status, err = self.run(path.read_bytes())
             want = CLEAN_EXAMPLES.get(path.stem, [])
             seen = [line.split()[2] for line in err.split("\n") if line.startswith("ctxbound: w")]
-            check.expect(path.name, status == 0 and seen == want, err)
-    print("%d of %d as they should be" % (check.count - check.failures, check.count))
-    return 1 if check.failures or not check.count else 0
+            self.expect(path.name, status == 0 and seen == want, err)
 
 
 if __name__ == "__main__":
-    sys.exit(main())
+    Checks.main()
