@@ -414,8 +414,6 @@ WARNED = [
      "var x;\nthread A { load r x; assert r == 0; store x 1; }"),
     ("var ^x;\nthread A { store x 1; }", 1, "W5 NeverLoaded", "no statement reads this variable",
      "var x;\nthread A { add old x 1; }"),
-    ("thread A { ^assert 1 == 1; }", 6, "W6 Constant", "an assertion of numbers alone has one outcome", "thread A { assert r == 0; set r 1; }"),
-    ("thread A { ^assert 1; }", 6, "W6 Constant", "an assertion of numbers alone has one outcome", "thread A { set r 1; assert r; }"),
     ("var x;\nthread A { repeat 2 { add r x 1; leave; ^store x 2; } }", 5, "W7 Unreached", "no run comes here",
      "var x;\nthread A { repeat 2 { add r x 1; if r { leave; } store x 2; } }"),
     ("mutex m; var x;\nthread A { ^lock m; add r x 1; if r { unlock m; } }", 4, "W8 MayKeep", "A may end with this mutex locked: on some way to its end nothing unlocks it",
@@ -464,9 +462,6 @@ WARNED = [
      "another statement waits for this condition with another mutex",
      "mutex m; mutex n; cond c;\nthread A { lock m; wait c m; unlock m; }\n"
      "thread B { lock n; unlock n; broadcast c; }"),
-    # an `assert 0;` that each run comes to
-    ("thread A { ^assert 0; }", 6, "W6 Constant", "an assertion of numbers alone",
-     "var x; thread A { load r x; if r { assert 0; } store x 0; }"),
 ]
 
 # Texts of which nothing is said.
@@ -477,9 +472,8 @@ CLEAN = [
     "mutex m; var x;\nthread A { add r x 1; lock m; if r { store x 1; } unlock m; }",
     # starts above 0
     "sem s = 1;\nthread A { acquire s; }",
-    # what must not be come to, passed over by a test and by a `leave`
-    "var x;\nthread A { load r x; if r == 7 { assert 0; } store x 1; }",
-    "var x;\nthread A { repeat 1 { add r x 1; if r == 0 { leave; } assert 0; } }",
+    # an assertion of numbers alone, as of what must not be come to
+    "thread A { assert 1 == 1; assert 0; }",
 ]
 
 # Warnings of `--deep`, with words of it, and further options.
@@ -506,8 +500,6 @@ DEEP = [
     # it holds in no schedule, whatever is loaded
     ("var x;\nthread A { load r x; ^assert r == 5; }\nthread B { store x 1; }", 6,
      "warning W20 NeverHolds", "in each schedule that comes here it fails", []),
-    ("var x = 3;\nthread A { load r x; ^assert r != 5; }\nthread B { load r x; store x r; }", 6,
-     "remark W11 OneOutcome", "in all schedules this assertion has the values 3 and 5", ["--remarks"]),
     # two wait in the schedules where both come before it
     ("mutex m; cond c;\nthread A { lock m; wait c m; unlock m; }\nthread B { lock m; wait c m; unlock m; }\n"
      "thread C { ^signal c; }", 6, "warning W13 SignalToOneOfMany", "two threads or more wait", []),
@@ -516,20 +508,20 @@ DEEP = [
 # Texts of which `--deep` says none of these.
 DEEP_CLEAN = [
     ("var x;\nthread A { load r x; if r { assert r == 2; } }\nthread B { store x 1; store x 2; }",
-     ["W10", "W11", "W12", "W20"], []),
+     ["W10", "W12", "W20"], []),
     ("var x;\nthread A { add r x 1; repeat 2 { load r x; if r { leave; } } }", ["W12"], []),
     # one thread alone waits
     ("mutex m; cond c;\nthread A { lock m; wait c m; unlock m; }\nthread B { signal c; }", ["W13"], []),
     # a broadcast wakes all
     ("mutex m; cond c;\nthread A { lock m; wait c m; unlock m; }\nthread B { lock m; wait c m; unlock m; }\n"
      "thread C { broadcast c; }", ["W13"], []),
-    # a remark is told where it is asked for
-    ("var x = 3;\nthread A { load r x; assert r != 5; }\nthread B { load r x; store x r; }", ["W11"], []),
+    # it holds, always with the same values
+    ("var x = 3;\nthread A { load r x; assert r != 5; }\nthread B { load r x; store x r; }", ["W"], ["--remarks"]),
     # what must not be come to
     ("var x;\nthread A { load r x; if r { assert 0; } store x 0; }", ["W10", "W20"], []),
     # the limit was reached: of two schedules, one comes to the assertion
     ("var x;\nthread A { load r x; if r == 1 { assert r == 1; } }\nthread B { store x 1; store x 2; }",
-     ["W10", "W11", "W20"], ["--remarks", "--limit", "1"]),
+     ["W10", "W20"], ["--remarks", "--limit", "1"]),
     # it runs out in the third schedule alone, which is one more than may be gone through
     ("var x;\nthread B { store x 1; }\nthread A { repeat 2 { load r x; if r { leave; } } }", ["W12"],
      ["--limit", "2"]),
@@ -537,7 +529,7 @@ DEEP_CLEAN = [
 
 # A text with two warnings, the name of one, and comments that silence it and that don't.
 ALLOWED = [" # allow W5", "# allow W9 W5", " # allow W5 since nobody asks", " #  allow\tW5\r"]
-NOT_ALLOWED = ["", " # W5", " # allow W6", " # allow  ", " # don't allow W5", " ## allow W5", " #allow W5", " # allow W55",
+NOT_ALLOWED = ["", " # W5", " # allow W4", " # allow  ", " # don't allow W5", " ## allow W5", " #allow W5", " # allow W55",
                " # allow xW5", " # allowed W5"]
 
 # Texts with the lines of `--short`, after the name of the file.
@@ -745,7 +737,7 @@ class Checks(Tester):
             self.expect("%r: keys" % text, all(list(o) == sorted(o) for o in seen), out)
             refused = any(o["severity"] == "error" for o in objects)
             self.expect("%r: status" % text, status == (2 if refused else 0), out)
-        _, out, _ = self.told(DEEP[-2][0].replace("^", ""), "--deep", "--remarks", "--json")
+        _, out, _ = self.told(DEEP[-1][0].replace("^", ""), "--deep", "--limit", "1", "--json")
         self.expect("a remark", '"severity":"remark"' in out, out)
 
     def on_terminal(self, text, *words):

@@ -1,2 +1,1 @@
 mod Tellings
-mod Words

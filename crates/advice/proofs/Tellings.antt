@@ -1,6 +1,5 @@
 -- What is told of a text that spells a tree, and of one that spells none.
-use Rattle.std.proofs.Common.{◌≡◌, ◌≢◌, ℕ, List, Vec, Global, Option, Some, None, false, refl}
-use Rattle.std.specs.Prelude.{All}
+use Rattle.std.proofs.Common.{◌≡◌, ◌≢◌, ℕ, List, Vec, Global, Option, Some, None, refl}
 use Rattle.guest_syntax.specs.declared.error.SyntaxError.{SyntaxError}
 use Rattle.guest_syntax.specs.Place.{start}
 use Rattle.guest_syntax.specs.ErrorTexts.{syntax_error_text}
@@ -14,7 +13,6 @@ use Rattle.guest_code.specs.Fault.{fault, Refuses}
 use Rattle.messages.specs.declared.message.Diagnostic.{Diagnostic}
 use Rattle.advice.specs.declared.Checked.TheVariants.{Sound, Refused}
 use Rattle.hints.specs.Refusals.{syntax_place, check_place, IsDiagnosticOf}
-use Rattle.advice.specs.Allowed.{is_allowed}
 use Rattle.advice.specs.Told.{Tells, is_sound, spells_none, has_fault}
 
 -- a refusal that isn't out of memory is the fault
@@ -29,8 +27,8 @@ refused_by (LeaveOutside at) f other r = r
 refused_by OutOfMemory f other r = absurd (other refl)
 
 pub told_sound : (text : List ℕ) (t : Tree) (as_ : Vec Diagnostic Global) → Spells text t
-    → fault t ≡ None → All (λ a. is_allowed text a ≡ false) as_.items → Tells text (Sound as_)
-told_sound text t as_ spells sound loud = is_sound t spells sound loud
+    → fault t ≡ None → Tells text (Sound as_)
+told_sound text t as_ spells sound = is_sound t spells sound
 
 pub told_fault : (text : List ℕ) (t : Tree) (e : CheckError) (a : Diagnostic) → Spells text t
     → e ≢ OutOfMemory → Refuses e (fault t)

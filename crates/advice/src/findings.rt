@@ -1,13 +1,12 @@
 //! The warnings of `lint`, with their places, as diagnostics.
 
 use crate::compiled::Compiled;
-use crate::warning_words::title_and_words;
 use guest_code::kinds::{NameKind, kind_of};
 use guest_syntax::place::Pos;
 use guest_syntax::tree::Tree;
 use hints::pieces::{START, is_boundary, piece_index_at};
 use lint::uses::Use;
-use lint::warning::{Warning, WarningKind};
+use lint::warning::{Subject, Warning, WarningKind};
 use lint::warnings::all_warnings;
 use messages::message::{Diagnostic, Severity};
 use std::alloc::AllocError;
@@ -17,42 +16,6 @@ use std::alloc::AllocError;
 struct Finding {
     warning: Warning,
     at: Pos,
-}
-
-// What the warnings of a kind are about: locals, instructions or objects. The number of a warning
-// says which of them.
-enum Subject {
-    /// A local of a thread; its place is in the first statement that makes this use of it.
-    Local(u8, Use),
-    /// An instruction of a thread.
-    Instruction(u8),
-    /// An object of this kind.
-    Object(NameKind),
-}
-
-// What the warnings of a kind are about: locals of a thread, told where a use of this sort is made
-// of them, instructions of a thread, or objects of a kind.
-fn subject_of(kind: WarningKind) -> Subject {
-    match kind {
-        WarningKind::NeverSet(thread) => Subject::Local(thread, Use::Reads),
-        WarningKind::NeverRead(thread) => Subject::Local(thread, Use::OnlySets),
-        WarningKind::Constant(thread)
-        | WarningKind::Unreached(thread)
-        | WarningKind::MayKeep(thread)
-        | WarningKind::MayLack(thread)
-        | WarningKind::LocksAgain(thread)
-        | WarningKind::WaitNotLookedAtAgain(thread)
-        | WarningKind::WaitsElsewhere(thread) => Subject::Instruction(thread),
-        WarningKind::UnusedVariable | WarningKind::NeverStored | WarningKind::NeverLoaded => {
-            Subject::Object(NameKind::Variable)
-        }
-        WarningKind::UnusedMutex => Subject::Object(NameKind::Mutex),
-        WarningKind::UnusedCondition | WarningKind::NeverSignalled | WarningKind::NeverWaitedFor =>
-            { Subject::Object(NameKind::Condition) }
-        WarningKind::UnusedSemaphore | WarningKind::NeverReleased => Subject::Object(
-            NameKind::Semaphore,
-        ),
-    }
 }
 
 // The place of the declared name of an object, by its kind and its number: those of a kind have
@@ -85,8 +48,12 @@ impl Compiled<'_> {
     // that of its statement, and for an object that of its declared name.
     fn locate(&self, warning: Warning) -> Finding {
         let number = warning.number;
-        let at = match subject_of(warning.kind) {
-            Subject::Local(thread, use_) => {
+        let at = match warning.kind.row().0 {
+            Subject::Local(thread) => {
+                let use_ = match warning.kind {
+                    WarningKind::NeverSet(_) => Use::Reads,
+                    _ => Use::OnlySets,
+                };
                 let statement = self.first_use_place(thread, use_, number);
                 self.name_place(statement, self.local_name(thread, number))
             }
@@ -120,8 +87,7 @@ impl Compiled<'_> {
         let found: Vec<Finding> = warnings.iter().map(|w| self.locate(*w)).collect(alloc)?;
         for finding in &found {
             if self.is_reported(&found, *finding) {
-                let message = self.warning_message(alloc, finding.warning)?;
-                let (title, _) = title_and_words(finding.warning.kind);
+                let (title, message) = self.warning_message(alloc, finding.warning)?;
                 self.add_diagnostic(all, (Severity::Warning, title), finding.at, message)?;
             }
         }

@@ -3,8 +3,8 @@
 //! - [`check`] answers why a text is refused, or the warnings of its program: a text is refused
 //!   exactly where it doesn't parse or its tree has a fault, and the short form and the place are
 //!   those of the refusal.
-//! - The warnings are those of `lint`; here they get their places and their words. With a depth, it
-//!   is also told what `lint` saw in schedules of the program.
+//! - The warnings are those of `lint`; here they get their places. With a limit, it is also told what
+//!   `lint` saw in that many schedules of the program.
 //! - [`advice_text`] answers the lines of diagnostics that `messages` defines, with carets under
 //!   the bytes in question. Above a diagnostic comes the file and line that its line comes from,
 //!   where a preprocessor's mark in the text tells it.
@@ -12,7 +12,7 @@
 //! Which words a diagnostic has, and all that schedules show, is shown by tests.
 #![tactic(auto)]
 
-ghost use Rattle.std.specs.Prelude.{◌≡◌, ◌≢◌, IfOk, All, false};
+ghost use Rattle.std.specs.Prelude.{◌≡◌, ◌≢◌, IfOk};
 ghost use Rattle.std.specs.List.{list_any};
 ghost use Rattle.guest_syntax.specs.Answers.{RefusalIn};
 ghost use Rattle.guest_syntax.specs.Grammar.{Spells};
@@ -21,21 +21,17 @@ ghost use Rattle.guest_syntax.specs.Tree.{Tree, tree_view};
 ghost use Rattle.guest_syntax.specs.declared.error.SyntaxError.TheVariants as syntax;
 ghost use Rattle.guest_code.specs.Code.{code};
 ghost use Rattle.guest_code.specs.Fault.{fault, Refuses};
-ghost use Rattle.advice.specs.Allowed.{is_allowed};
-ghost use Rattle.advice.specs.Told.{Tells, is_warning, is_warned, checked_lines};
+ghost use Rattle.advice.specs.Told.{Tells, is_warning, is_warned};
 
 mod allowed;
 mod compiled;
 mod explored;
 mod findings;
-mod lines;
 mod spins;
 mod warning_words;
 
 use crate::allowed::is_allowed;
 use crate::compiled::Compiled;
-pub use crate::explored::Depth;
-use crate::lines::{put_diagnostic, put_diagnostics};
 use guest_code::error::CheckError;
 use guest_code::lowering::lower;
 use guest_code::program::Program;
@@ -44,8 +40,10 @@ use guest_syntax::tree::Tree as SyntaxTree;
 use guest_syntax::{SyntaxError, parse};
 use hints::pieces::pieces;
 use hints::refusal::{check_diagnostic, syntax_diagnostic};
+use messages::message::put_shown;
 pub use messages::message::{Diagnostic, Note, Severity, Span};
 use std::alloc::{AllocError, Global};
+use std::slice;
 use text_lines::Marks;
 
 /// What [`check`] finds.
@@ -58,6 +56,14 @@ pub enum Checked {
 }
 
 impl Checked {
+    /// What is told: the warnings and remarks in their order, or why the text is refused.
+    pub fn diagnostics(&self) -> &[Diagnostic] {
+        match self {
+            Checked::Sound(all) => all,
+            Checked::Refused(diagnostic) => slice::from_ref(diagnostic),
+        }
+    }
+
     /// Whether the text is a program with at least one warning; remarks are none.
     pub fn is_warned(&self) -> bool
         ensures { result ≡ is_warned self.now }
@@ -77,13 +83,13 @@ fn has_warning(all: &[Diagnostic]) -> bool
 }
 
 /// Why a text is refused, or else what is odd about its program, in the order of the text. With a
-/// depth, schedules of the program are explored, up to as many as the depth says, and it is also
-/// told what they show. Fails where memory runs out.
-pub fn check(alloc: Global, text: &[u8], depth: Option<Depth>) -> Result<Checked, AllocError>
+/// limit, schedules of the program are explored, up to that many, counting those that sleep sets
+/// cut short, and it is also told what they show. Fails where memory runs out.
+pub fn check(alloc: Global, text: &[u8], limit: Option<u64>) -> Result<Checked, AllocError>
     ensures { IfOk result (Tells text.now) }
 {
     match parse(alloc, text) {
-        Ok(tree) => check_tree(alloc, text, depth, &tree),
+        Ok(tree) => check_tree(alloc, text, limit, &tree),
         Err(error) => syntax_refusal(alloc, text, error),
     }
 }
@@ -126,11 +132,11 @@ fn check_refusal(
 }
 
 // What a check finds in a text with this tree: why it is refused, or what is odd about its program.
-// With a depth, schedules are explored as well, and it is also told what they show.
+// With a limit, schedules are explored as well, and it is also told what they show.
 fn check_tree(
     alloc: Global,
     text: &[u8],
-    depth: Option<Depth>,
+    limit: Option<u64>,
     tree: &SyntaxTree,
 ) -> Result<Checked, AllocError>
     requires { Spells text.now (tree_view tree.now) }
@@ -138,7 +144,7 @@ fn check_tree(
 {
     match lower(alloc, tree) {
         Ok(program) => {
-            let all = all_diagnostics(alloc, text, depth, tree, &program)?;
+            let all = all_diagnostics(alloc, text, limit, tree, &program)?;
             Ok(Checked::Sound(all))
         }
         Err(error) => check_refusal(alloc, text, tree, error),
@@ -146,16 +152,15 @@ fn check_tree(
 }
 
 // The warnings and remarks on the program of a tree, in the order of the text, without those that a
-// comment of their line allows. With a depth, also those on what schedules of the program show.
+// comment of their line allows. With a limit, also those on what schedules of the program show.
 fn all_diagnostics(
     alloc: Global,
     text: &[u8],
-    depth: Option<Depth>,
+    limit: Option<u64>,
     tree: &SyntaxTree,
     program: &Program,
 ) -> Result<Vec<Diagnostic>, AllocError>
     requires { program.now ≡ code (tree_view tree.now) }
-    ensures { IfOk result (λ v. All (λ a. is_allowed text.now a ≡ false) v.items) }
 {
     let Ok(map) = SourceMap::new(alloc, tree) else {
         return Err(AllocError);
@@ -169,24 +174,29 @@ fn all_diagnostics(
     };
     let mut all = Vec::new(alloc);
     compiled.add_warnings(&mut all)?;
-    if let Some(depth) = depth {
-        compiled.explore_into(depth, &mut all)?;
+    if let Some(limit) = limit {
+        compiled.explore_into(limit, &mut all)?;
     }
     all.retain(|diagnostic| !is_allowed(text, diagnostic));
     all.sort_by_key(|diagnostic| diagnostic.place())?;
     Ok(all)
 }
 
-/// The lines to print on standard error of what a check of a text found. Fails where memory runs
-/// out.
-pub fn advice_text(alloc: Global, text: &[u8], checked: &Checked) -> Result<Vec<u8>, AllocError>
-    ensures { IfOk result (λ v. v.items ≡ checked_lines text.now checked.now) }
-{
+/// The lines to print on standard error of what a check of a text found. Above a diagnostic comes a
+/// row `FILE:LINE:COLUMN:` where a preprocessor's mark tells the file and line that its line comes
+/// from. Fails where memory runs out.
+pub fn advice_text(alloc: Global, text: &[u8], checked: &Checked) -> Result<Vec<u8>, AllocError> {
     let marks = Marks::new(alloc, text)?;
     let mut out = Vec::new(alloc);
-    match checked {
-        Checked::Refused(diagnostic) => put_diagnostic(&mut out, text, &marks, diagnostic)?,
-        Checked::Sound(all) => put_diagnostics(&mut out, text, &marks, all)?,
+    for diagnostic in checked.diagnostics() {
+        if let Some(span) = diagnostic.span
+            && let Some(origin) = marks.origin(span.at.line)
+        {
+            put_shown(&mut out, origin.file())?;
+            let place = format!(in alloc; ":{}:{}:\n", origin.line(), span.at.col)?;
+            out.extend_from_slice(place.as_bytes())?;
+        }
+        diagnostic.put(&mut out, text)?;
     }
     Ok(out)
 }

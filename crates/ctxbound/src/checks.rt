@@ -3,12 +3,10 @@
 ghost use Rattle.std.specs.Prelude.{◌≡◌, IfOk};
 ghost use Rattle.ctxbound.specs.Status.{checked_status};
 ghost use Rattle.ctxbound.specs.Checks.{IsCheckOf};
-ghost use Rattle.advice.specs.Told.{checked_lines};
-ghost use Rattle.answering.specs.declared.request.CheckForm.TheVariants.{Lines};
 
 use crate::diagnostics::diagnostics_text;
 use crate::files::{GuestFile, guest_files};
-use advice::{Checked, Depth, advice_text, check};
+use advice::{Checked, advice_text, check};
 use answering::{CheckForm, CheckRequest, CommandFault, Fault, Printed, read_file, write_printed};
 use std::alloc::{Alloc, AllocError, Global};
 use std::fs;
@@ -85,14 +83,9 @@ pub fn check_text(
     file: &str,
     request: &CheckRequest,
 ) -> Result<Printed, AllocError>
-    ensures { IfOk result (IsCheckOf text.now request.now.strict request.now.form) }
+    ensures { IfOk result (IsCheckOf text.now request.now.strict) }
 {
-    let remarks = request.remarks;
-    let checked = check(
-        alloc,
-        text,
-        request.depth.map(|limit| Depth { limit, remarks }),
-    )?;
+    let checked = check(alloc, text, request.depth)?;
     Ok(Printed {
         output: check_output(alloc, text, file, &checked, request.form)?,
         status: checked_status(&checked, request.strict),
@@ -106,9 +99,7 @@ fn check_output(
     file: &str,
     checked: &Checked,
     form: CheckForm,
-) -> Result<Vec<u8>, AllocError>
-    ensures { IfOk result (λ v. form ≡ Lines → v.items ≡ checked_lines text.now checked.now) }
-{
+) -> Result<Vec<u8>, AllocError> {
     match form {
         CheckForm::Lines => advice_text(alloc, text, checked),
         CheckForm::Short => diagnostics_text(alloc, text, file, checked, false),

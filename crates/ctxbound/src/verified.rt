@@ -3,7 +3,7 @@
 ghost use Rattle.std.specs.Prelude.{◌≡◌};
 ghost use Rattle.ctxbound.specs.Status.{verified_status};
 
-use advice::{Checked, Depth, Diagnostic, check};
+use advice::{Checked, Diagnostic, check};
 use answering::{Fault, Printed, VerifyRequest};
 use guest_syntax::pieces::Piece;
 use hints::pieces::pieces;
@@ -68,13 +68,9 @@ fn verified_status(answer: &Correctness) -> u8
 fn right_text(alloc: Global, request: &VerifyRequest, text: &[u8]) -> Result<String, AllocError> {
     let file = request.file.as_str();
     let mut told = format!(in alloc; "RIGHT: no schedule of {file} fails or gets stuck.\n")?;
-    let depth = Depth {
-        limit: request.limits.limit,
-        remarks: false,
-    };
     let pieces = pieces(alloc, text)?;
     let marks = Marks::new(alloc, text)?;
-    if let Checked::Sound(all) = check(alloc, text, Some(depth))? {
+    if let Checked::Sound(all) = check(alloc, text, Some(request.limits.limit))? {
         for diagnostic in &all {
             let (line, column) = diagnostic.place();
             let at = match marks.origin(line) {

@@ -1,3 +1,2 @@
-mod KindsOfThreads
 mod PathMarks
 mod WarningLists

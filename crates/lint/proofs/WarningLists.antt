@@ -4,7 +4,7 @@ use Rattle.std.proofs.lemmas.List.{take_more}
 use Rattle.guest_code.specs.Program.{Program}
 use Rattle.lint.specs.declared.warning.WarningKind.{WarningKind}
 use Rattle.lint.specs.declared.warning.Warning.{Warning}
-use Rattle.lint.specs.Warnings.{IsSo, Chosen, none, taken, passed, Listed, nothing, more, count_of}
+use Rattle.lint.specs.Warnings.{IsSo, Chosen, none, taken, passed, Listed, nothing, more, subject_of, count_of}
 
 pub chosen_none : (p : Program) (kind : WarningKind) (ws : List Warning) → ws ≡ [] → Chosen p kind 0 ws
 chosen_none p kind ws e = let P : List Warning → Type 0 = λ vs. Chosen p kind 0 vs in
@@ -35,7 +35,7 @@ listed_none p ks ws e = let P : List Warning → Type 0 = λ vs. Listed p [] vs 
 
 pub listed_more : (p : Program) (ks : List WarningKind) (i : ℕ) (d : WarningKind) (ws vs all : List Warning)
     → i < length ks → Listed p (take i ks) ws
-    → Chosen p (get_or ks i d) (count_of p (get_or ks i d)) vs → all ≡ ws ++ vs
+    → Chosen p (get_or ks i d) (count_of p (subject_of (get_or ks i d))) vs → all ≡ ws ++ vs
     → Listed p (take (i + 1) ks) all
 listed_more p ks i d ws vs all lt listed chosen e =
     let P : List Warning → Type 0 = λ us. Listed p (take (i + 1) ks) us in

@@ -68,7 +68,3 @@ IsReached code k = (b : Bool) × Comes code watches.Nothing 0 false k b
 -- an instruction that acts, or the end
 abbrev pub ActsAt : List Instruction → ℕ → Type 0
 ActsAt code k = IsTrue (acts (slice_index_or code k (Skip 0))) ⊎ (k ≡ length code)
-
--- some jump before an instruction may pass it over
-abbrev pub IsPassedOver : List Instruction → ℕ → Type 0
-IsPassedOver code k = (i : ℕ) × (i < k) × (k < i + 1 + skip_of (slice_index_or code i (Skip 0)))

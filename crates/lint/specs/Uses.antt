@@ -1,7 +1,6 @@
 -- What an instruction does with locals and with objects.
-use Rattle.std.specs.Prelude.{ℕ, pos, Bool, true, false, ◌||◌, ◌&&◌, not, nat_eq, Option, Some, None}
+use Rattle.std.specs.Prelude.{ℕ, Bool, true, false, ◌||◌, ◌&&◌, not, nat_eq, Option, Some, None}
 use Rattle.std.specs.Option.{option_or}
-use Rattle.std.specs.Ordering.{int_eq}
 use Rattle.guest_code.specs.declared.program.Value.{Value}
 use Rattle.guest_code.specs.declared.program.Value.TheVariants.{Local, Literal}
 use Rattle.guest_code.specs.declared.program.Expression.{Expression}
@@ -132,18 +131,3 @@ does (uses.WaitsWithout m) n i = waits_without m n i
 does uses.Signals n i = signals n i
 does uses.Acquires n i = acquires n i
 does uses.Releases n i = releases n i
-
--- an assertion of numbers alone
-abbrev pub value_is_constant : Value → Bool
-value_is_constant (Local q) = false
-value_is_constant (Literal n) = true
-
-abbrev pub is_constant : Instruction → Bool
-is_constant (Assert (Single (Literal n))) = true
-is_constant (Assert (Both (Literal n) op (Literal k))) = true
-is_constant _ = false
-
--- `assert 0;`, which says that no run is to come here
-abbrev pub forbids : Instruction → Bool
-forbids (Assert (Single (Literal n))) = int_eq n (pos 0)
-forbids _ = false

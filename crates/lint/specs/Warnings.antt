@@ -2,17 +2,20 @@
 use Rattle.std.specs.Prelude.{◌≡◌, ℕ, zero, suc, ◌<◌, Bool, true, false, IsTrue, List, [], ◌∷◌, ◌++◌, length, slice_index_or}
 use Rattle.std.specs.List.{list_any}
 use Rattle.guest_code.specs.Program.{Program, code_of, thread_at, semaphore_at}
+use Rattle.guest_code.specs.declared.kinds.NameKind.TheVariants as names
 use Rattle.guest_code.specs.declared.limits.TheConstants.{LOCALS}
 use Rattle.guest_code.specs.declared.program.Instruction.{Instruction}
 use Rattle.guest_code.specs.declared.program.Instruction.TheVariants.{Lock, Unlock, Wait, Skip}
 use Rattle.lint.specs.declared.uses.Use.{Use}
 use Rattle.lint.specs.declared.uses.Use.TheVariants as uses
+use Rattle.lint.specs.declared.warning.Subject.{Subject}
+use Rattle.lint.specs.declared.warning.Subject.TheVariants.{Local, Instruction as Statement, Object}
 use Rattle.lint.specs.declared.warning.WarningKind.{WarningKind}
 use Rattle.lint.specs.declared.warning.WarningKind.TheVariants as kinds
 use Rattle.lint.specs.declared.warning.Warning.{Warning}
 use Rattle.lint.specs.declared.paths.Watch.TheVariants as watches
-use Rattle.lint.specs.Uses.{does, is_constant, forbids}
-use Rattle.lint.specs.Paths.{Comes, IsReached, IsPassedOver, ActsAt}
+use Rattle.lint.specs.Uses.{does}
+use Rattle.lint.specs.Paths.{Comes, IsReached, ActsAt}
 
 -- some instruction of thread t makes this use of the local or object of this number
 abbrev pub UsesIn : Program → ℕ → Use → ℕ → Type 0
@@ -68,11 +71,6 @@ abbrev pub WaitNotLookedAtAgain : List Instruction → ℕ → Type 0
 WaitNotLookedAtAgain code k = IsTrue (is_wait (slice_index_or code k (Skip 0)))
     × ((r : ℕ) → r < LOCALS → IsUnseen code r k)
 
--- Instruction k asserts numbers alone, and isn't an `assert 0;` that a jump may pass over.
-abbrev pub IsConstantAt : List Instruction → ℕ → Type 0
-IsConstantAt code k = IsTrue (is_constant (slice_index_or code k (Skip 0)))
-    × ¬ (IsTrue (forbids (slice_index_or code k (Skip 0))) × IsPassedOver code k)
-
 -- an instruction waits for a condition that is waited for with another mutex too
 abbrev pub WaitsElsewhere : Program → Instruction → Type 0
 WaitsElsewhere p (Wait c m) = UsesAnywhere p (uses.WaitsWithout m) c
@@ -92,7 +90,6 @@ IsSo p kinds.NeverSignalled c = UsesAnywhere p uses.Waits c × ¬ UsesAnywhere p
 IsSo p kinds.NeverWaitedFor c = UsesAnywhere p uses.Signals c × ¬ UsesAnywhere p uses.Waits c
 IsSo p kinds.NeverReleased s = ((semaphore_at p s).count ≡ 0) × UsesAnywhere p uses.Acquires s
     × ¬ UsesAnywhere p uses.Releases s
-IsSo p (kinds.Constant t) k = IsConstantAt (code_of p t) k
 IsSo p (kinds.Unreached t) k = ¬ IsReached (code_of p t) k
 IsSo p (kinds.MayKeep t) k = MayKeep (code_of p t) k
 IsSo p (kinds.MayLack t) k = MayLack (code_of p t) k
@@ -100,47 +97,34 @@ IsSo p (kinds.LocksAgain t) k = LocksAgain (code_of p t) k
 IsSo p (kinds.WaitNotLookedAtAgain t) k = WaitNotLookedAtAgain (code_of p t) k
 IsSo p (kinds.WaitsElsewhere t) k = WaitsElsewhere p (instruction_at p t k)
 
--- how many locals, objects or instructions there are to ask about
-abbrev pub count_of : Program → WarningKind → ℕ
-count_of p (kinds.NeverSet t) = (thread_at p t).locals
-count_of p (kinds.NeverRead t) = (thread_at p t).locals
-count_of p kinds.UnusedVariable = length p.variables
-count_of p kinds.NeverStored = length p.variables
-count_of p kinds.NeverLoaded = length p.variables
-count_of p kinds.UnusedMutex = length p.mutexes
-count_of p kinds.UnusedCondition = length p.conditions
-count_of p kinds.UnusedSemaphore = length p.semaphores
-count_of p kinds.NeverSignalled = length p.conditions
-count_of p kinds.NeverWaitedFor = length p.conditions
-count_of p kinds.NeverReleased = length p.semaphores
-count_of p (kinds.Constant t) = length (code_of p t)
-count_of p (kinds.Unreached t) = length (code_of p t)
-count_of p (kinds.MayKeep t) = length (code_of p t)
-count_of p (kinds.MayLack t) = length (code_of p t)
-count_of p (kinds.LocksAgain t) = length (code_of p t)
-count_of p (kinds.WaitNotLookedAtAgain t) = length (code_of p t)
-count_of p (kinds.WaitsElsewhere t) = length (code_of p t)
+-- what the warnings of a kind are about, and how many of them a program has
+abbrev pub subject_of : WarningKind → Subject
+subject_of (kinds.NeverSet t) = Local t
+subject_of (kinds.NeverRead t) = Local t
+subject_of kinds.UnusedVariable = Object names.Variable
+subject_of kinds.NeverStored = Object names.Variable
+subject_of kinds.NeverLoaded = Object names.Variable
+subject_of kinds.UnusedMutex = Object names.Mutex
+subject_of kinds.UnusedCondition = Object names.Condition
+subject_of kinds.UnusedSemaphore = Object names.Semaphore
+subject_of kinds.NeverSignalled = Object names.Condition
+subject_of kinds.NeverWaitedFor = Object names.Condition
+subject_of kinds.NeverReleased = Object names.Semaphore
+subject_of (kinds.Unreached t) = Statement t
+subject_of (kinds.MayKeep t) = Statement t
+subject_of (kinds.MayLack t) = Statement t
+subject_of (kinds.LocksAgain t) = Statement t
+subject_of (kinds.WaitNotLookedAtAgain t) = Statement t
+subject_of (kinds.WaitsElsewhere t) = Statement t
 
--- its thread is one of the program's
-abbrev pub IsOfThread : Program → WarningKind → Type 0
-IsOfThread p (kinds.NeverSet t) = t < length p.threads
-IsOfThread p (kinds.NeverRead t) = t < length p.threads
-IsOfThread p kinds.UnusedVariable = Unit {0}
-IsOfThread p kinds.NeverStored = Unit {0}
-IsOfThread p kinds.NeverLoaded = Unit {0}
-IsOfThread p kinds.UnusedMutex = Unit {0}
-IsOfThread p kinds.UnusedCondition = Unit {0}
-IsOfThread p kinds.UnusedSemaphore = Unit {0}
-IsOfThread p kinds.NeverSignalled = Unit {0}
-IsOfThread p kinds.NeverWaitedFor = Unit {0}
-IsOfThread p kinds.NeverReleased = Unit {0}
-IsOfThread p (kinds.Constant t) = t < length p.threads
-IsOfThread p (kinds.Unreached t) = t < length p.threads
-IsOfThread p (kinds.MayKeep t) = t < length p.threads
-IsOfThread p (kinds.MayLack t) = t < length p.threads
-IsOfThread p (kinds.LocksAgain t) = t < length p.threads
-IsOfThread p (kinds.WaitNotLookedAtAgain t) = t < length p.threads
-IsOfThread p (kinds.WaitsElsewhere t) = t < length p.threads
+abbrev pub count_of : Program → Subject → ℕ
+count_of p (Local t) = (thread_at p t).locals
+count_of p (Statement t) = length (code_of p t)
+count_of p (Object names.Variable) = length p.variables
+count_of p (Object names.Mutex) = length p.mutexes
+count_of p (Object names.Condition) = length p.conditions
+count_of p (Object names.Semaphore) = length p.semaphores
+count_of p (Object names.Thread) = length p.threads
 
 -- the warnings of a kind, of the numbers below n for which it is so, in order
 pub data Chosen (p : Program) (kind : WarningKind) : ℕ → List Warning → Type 0 where
@@ -154,12 +138,12 @@ pub data Chosen (p : Program) (kind : WarningKind) : ℕ → List Warning → Ty
 pub data Listed (p : Program) : List WarningKind → List Warning → Type 0 where
   nothing : Listed p [] []
   more : {ks : List WarningKind} {ws : List Warning} {kind : WarningKind} {vs : List Warning} → Listed p ks ws
-      → Chosen p kind (count_of p kind) vs → Listed p (ks ++ kind ∷ []) (ws ++ vs)
+      → Chosen p kind (count_of p (subject_of kind)) vs → Listed p (ks ++ kind ∷ []) (ws ++ vs)
 
 -- the kinds of warnings of a thread, and of a program
 abbrev pub kinds_of_thread : ℕ → List WarningKind
-kinds_of_thread t = kinds.NeverSet t ∷ kinds.NeverRead t ∷ kinds.Constant t ∷ kinds.Unreached t
-    ∷ kinds.MayKeep t ∷ kinds.MayLack t ∷ kinds.LocksAgain t ∷ kinds.WaitNotLookedAtAgain t
+kinds_of_thread t = kinds.NeverSet t ∷ kinds.NeverRead t ∷ kinds.Unreached t ∷ kinds.MayKeep t
+    ∷ kinds.MayLack t ∷ kinds.LocksAgain t ∷ kinds.WaitNotLookedAtAgain t
     ∷ kinds.WaitsElsewhere t ∷ []
 
 abbrev pub kinds_of_threads : ℕ → List WarningKind

@@ -2,7 +2,7 @@
 
 ghost use Rattle.std.specs.Prelude.{◌≡◌, ◌+◌, ◌<◌, ◌≤◌, ◌^◌, ◌↔◌, ℕ, Bool, IsTrue, IfOk, length};
 ghost use Rattle.guest_code.specs.Program.{JumpsWithin, skip_of};
-ghost use Rattle.lint.specs.Paths.{is_test, owned_after, acts, unseen_after, after, IsPassedOver, ActsAt};
+ghost use Rattle.lint.specs.Paths.{is_test, owned_after, acts, unseen_after, after, ActsAt};
 ghost use Rattle.lint.specs.inner.Marks.{Marked, AddsOne, AddsNext, AddsAll, Marks};
 
 use crate::uses::{expression_reads, sets};
@@ -144,20 +144,12 @@ fn propagate_marks(marks: &mut [Mark], at: usize, instruction: &Instruction, wat
 {
     let here = marks[at];
     if here.may_hold {
-        mark_successors(
-            marks,
-            at,
-            instruction,
-            holds_after(watch, instruction, true),
-        );
+        let next = holds_after(watch, instruction, true);
+        mark_successors(marks, at, instruction, next);
     }
     if here.may_not_hold {
-        mark_successors(
-            marks,
-            at,
-            instruction,
-            holds_after(watch, instruction, false),
-        );
+        let next = holds_after(watch, instruction, false);
+        mark_successors(marks, at, instruction, next);
     }
 }
 
@@ -214,19 +206,4 @@ pub fn reaches_effect_or_end(marks: &[Mark], code: &[Instruction]) -> bool
         }
     }
     marks[code.len()].may_hold || marks[code.len()].may_not_hold
-}
-
-/// Whether some instruction before that of number `at` may jump over it.
-pub fn is_passed_over(code: &[Instruction], at: usize) -> bool
-    requires jumps { JumpsWithin code.now }
-    requires at { at < length code.now }
-    requires short { length code.now < 2 ^ 32 }
-    ensures { IsTrue result ↔ IsPassedOver code.now at }
-{
-    for i in 0..at {
-        if at < i + 1 + skip_of(&code[i]) {
-            return true;
-        }
-    }
-    false
 }

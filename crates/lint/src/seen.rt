@@ -1,30 +1,19 @@
 //! What the schedules explored so far show of a program: of its assertions, `signal`s and loops.
 
 ghost use Rattle.std.specs.Prelude.{◌<◌};
-ghost use Rattle.guest_code.specs.Program.{Program, IsValidCode, IsValidExpression};
+ghost use Rattle.guest_code.specs.Program.{Program, IsValidCode};
 
 use crate::spin::Spin;
 use guest_code::limits::LOCALS;
-use guest_code::program::{Expression, Instruction, Program};
-use semantics::{Turn, expression_value, operand_value, run_if_local};
+use guest_code::program::{Instruction, Program};
+use semantics::{Turn, expression_value, run_if_local};
 use std::alloc::{AllocError, Global};
-
-/// The values with which an assertion was carried out, over all schedules explored so far.
-#[derive(Clone, Copy, Debug, PartialEq, Eq)]
-pub enum ValuesSeen {
-    /// The assertion wasn't carried out.
-    Unseen,
-    /// Each time the two sides had these values.
-    Same(i64, i64),
-    /// The sides had different values in different schedules, or at different times in one.
-    Varied,
-}
 
 /// What was seen of an instruction of a thread, over all schedules explored so far.
 #[derive(Drop)]
 pub struct InstructionSeen {
-    /// Of an assertion: the values of its two sides.
-    pub values: ValuesSeen,
+    /// Of an assertion: whether it was carried out in some schedule.
+    pub is_run: bool,
     /// Of an assertion: whether it held in some schedule.
     pub has_held: bool,
     /// Of a `signal`: the threads of the steps up to the first time that two threads or more waited
@@ -42,27 +31,6 @@ pub struct Seen {
     pub ran_out: Vec<Option<Vec<u8>>>,
 }
 
-/// The values seen of the two sides of an assertion: `values` so far, and `left` and `right`, with
-/// which it is carried out now. `Varied` unless these two are the same each time.
-pub fn values_with(values: ValuesSeen, left: i64, right: i64) -> ValuesSeen {
-    match values {
-        ValuesSeen::Unseen => ValuesSeen::Same(left, right),
-        ValuesSeen::Same(a, b) if a == left && b == right => values,
-        _ => ValuesSeen::Varied,
-    }
-}
-
-// The values of the two sides of an assertion's expression, with these locals; of a single operand
-// its value twice.
-fn side_values(locals: &[i64; LOCALS], expression: &Expression) -> (i64, i64)
-    requires { IsValidExpression expression.now }
-{
-    match expression {
-        Expression::Single(a) => (operand_value(locals, *a), operand_value(locals, *a)),
-        Expression::Both(a, _, b) => (operand_value(locals, *a), operand_value(locals, *b)),
-    }
-}
-
 /// A step of a schedule, or the start of a thread: where something is seen.
 #[derive(Clone, Copy)]
 pub struct SeenStep<'a> {
@@ -75,48 +43,35 @@ pub struct SeenStep<'a> {
     pub code: &'a [Instruction],
 }
 
-// What was seen of each of `count` instructions before any schedule is explored: nothing.
-fn unseen_instructions(alloc: Global, count: usize) -> Result<Vec<InstructionSeen>, AllocError> {
-    let mut instructions = Vec::new(alloc);
-    for _ in 0..count {
-        instructions.push(InstructionSeen {
-            values: ValuesSeen::Unseen,
-            has_held: false,
-            signal_to_many: None,
-        })?;
-    }
-    Ok(instructions)
-}
-
 impl Seen {
     /// What was seen of a program before any schedule is explored: nothing. `spins` is how many of
     /// its loops a `leave` may end. Fails where memory runs out.
     pub fn new(alloc: Global, program: &Program, spins: usize) -> Result<Seen, AllocError> {
         let mut instructions = Vec::new(alloc);
         for thread in 0..program.threads() {
-            instructions.push(unseen_instructions(alloc, program.code(thread).len())?)?;
-        }
-        let mut ran_out = Vec::new(alloc);
-        for _ in 0..spins {
-            ran_out.push(None)?;
+            let unseen = (0..program.code(thread).len()).map(|_| InstructionSeen {
+                is_run: false,
+                has_held: false,
+                signal_to_many: None,
+            });
+            instructions.push(unseen.collect(alloc)?)?;
         }
         Ok(Seen {
             alloc,
             instructions,
-            ran_out,
+            ran_out: (0..spins).map(|_| None).collect(alloc)?,
         })
     }
 
-    // Notes the values that the sides of an assertion have with these locals, and whether it holds.
-    // The assertion is the instruction of number `at`; does nothing where that is no assertion.
+    // Notes whether an assertion, the instruction of number `at`, holds with these locals. Does
+    // nothing where that is no assertion.
     fn note_if_assertion(&mut self, step: SeenStep<'_>, at: usize, locals: &[i64; LOCALS])
         requires { (p : Program) × IsValidCode p step.code.now }
     {
         if let Some(Instruction::Assert(test)) = step.code.get(at) {
-            let (left, right) = side_values(locals, test);
             let holds = expression_value(locals, test) != 0;
             if let Some(instruction) = self.instruction_mut(step.thread, at) {
-                instruction.values = values_with(instruction.values, left, right);
+                instruction.is_run = true;
                 instruction.has_held = instruction.has_held || holds;
             }
         }

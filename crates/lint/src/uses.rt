@@ -3,7 +3,7 @@
 
 ghost use Rattle.std.specs.Prelude.{◌≡◌};
 ghost use Rattle.std.specs.List.{list_any};
-ghost use Rattle.lint.specs.Uses.{value_reads, expression_reads, reads, is, local_set, variable_read, variable_written, variable_used, sets, fills, names_mutex, names_condition, names_semaphore, waits, waits_without, signals, acquires, releases, does, is_constant, forbids};
+ghost use Rattle.lint.specs.Uses.{value_reads, expression_reads, reads, is, local_set, variable_read, variable_written, variable_used, sets, does};
 
 use guest_code::program::{Expression, Instruction, Value};
 
@@ -138,99 +138,6 @@ pub fn sets(local: usize, instruction: &Instruction) -> bool
     is_some_of(local, local_set(instruction))
 }
 
-// Whether an instruction gives the local `wanted` a value and changes nothing else: a `load` or a
-// `set`. An `add` writes a variable, too, and a `cas` may.
-fn only_sets(wanted: usize, instruction: &Instruction) -> bool
-    ensures { result ≡ fills wanted instruction.now }
-{
-    match instruction {
-        Instruction::Load { local, .. } | Instruction::Set { local, .. } => *local == wanted,
-        _ => false,
-    }
-}
-
-// Whether an instruction names the mutex `wanted`.
-fn names_mutex(wanted: usize, instruction: &Instruction) -> bool
-    ensures { result ≡ names_mutex wanted instruction.now }
-{
-    match instruction {
-        Instruction::Lock(mutex) | Instruction::Unlock(mutex) => *mutex == wanted,
-        Instruction::Wait { mutex, .. } => *mutex == wanted,
-        _ => false,
-    }
-}
-
-// Whether an instruction names the condition `wanted`.
-fn names_condition(wanted: usize, instruction: &Instruction) -> bool
-    ensures { result ≡ names_condition wanted instruction.now }
-{
-    match instruction {
-        Instruction::Signal(condition) | Instruction::Broadcast(condition) => *condition == wanted,
-        Instruction::Wait { condition, .. } => *condition == wanted,
-        _ => false,
-    }
-}
-
-// Whether an instruction names the semaphore `wanted`.
-fn names_semaphore(wanted: usize, instruction: &Instruction) -> bool
-    ensures { result ≡ names_semaphore wanted instruction.now }
-{
-    match instruction {
-        Instruction::Acquire(semaphore) | Instruction::Release(semaphore) => *semaphore == wanted,
-        _ => false,
-    }
-}
-
-// Whether an instruction waits for the condition `wanted`, with whichever mutex.
-fn waits(wanted: usize, instruction: &Instruction) -> bool
-    ensures { result ≡ waits wanted instruction.now }
-{
-    match instruction {
-        Instruction::Wait { condition, .. } => *condition == wanted,
-        _ => false,
-    }
-}
-
-// Whether an instruction waits for the condition `wanted` with another mutex than `other`.
-fn waits_with_other_mutex(other: usize, wanted: usize, instruction: &Instruction) -> bool
-    ensures { result ≡ waits_without other wanted instruction.now }
-{
-    match instruction {
-        Instruction::Wait { condition, mutex } => *condition == wanted && *mutex != other,
-        _ => false,
-    }
-}
-
-// Whether an instruction wakes threads that wait for the condition `wanted`, one or all.
-fn signals(wanted: usize, instruction: &Instruction) -> bool
-    ensures { result ≡ signals wanted instruction.now }
-{
-    match instruction {
-        Instruction::Signal(condition) | Instruction::Broadcast(condition) => *condition == wanted,
-        _ => false,
-    }
-}
-
-// Whether an instruction acquires the semaphore `wanted`.
-fn acquires(wanted: usize, instruction: &Instruction) -> bool
-    ensures { result ≡ acquires wanted instruction.now }
-{
-    match instruction {
-        Instruction::Acquire(semaphore) => *semaphore == wanted,
-        _ => false,
-    }
-}
-
-// Whether an instruction releases the semaphore `wanted`.
-fn releases(wanted: usize, instruction: &Instruction) -> bool
-    ensures { result ≡ releases wanted instruction.now }
-{
-    match instruction {
-        Instruction::Release(semaphore) => *semaphore == wanted,
-        _ => false,
-    }
-}
-
 impl Use {
     /// Whether an instruction makes this use of the local or the object of this number.
     pub fn is_made(self, number: usize, instruction: &Instruction) -> bool
@@ -239,17 +146,48 @@ impl Use {
         match self {
             Use::Reads => reads(number, instruction),
             Use::Sets => sets(number, instruction),
-            Use::OnlySets => only_sets(number, instruction),
+            // an `add` writes a variable, too, and a `cas` may
+            Use::OnlySets => match instruction {
+                Instruction::Load { local, .. } | Instruction::Set { local, .. } => *local
+                    == number,
+                _ => false,
+            },
             Use::Loads => is_some_of(number, variable_read(instruction)),
             Use::Stores => is_some_of(number, variable_written(instruction)),
-            Use::OfMutex => names_mutex(number, instruction),
-            Use::OfCondition => names_condition(number, instruction),
-            Use::OfSemaphore => names_semaphore(number, instruction),
-            Use::Waits => waits(number, instruction),
-            Use::WaitsWithout(mutex) => waits_with_other_mutex(mutex, number, instruction),
-            Use::Signals => signals(number, instruction),
-            Use::Acquires => acquires(number, instruction),
-            Use::Releases => releases(number, instruction),
+            Use::OfMutex => match instruction {
+                Instruction::Lock(mutex) | Instruction::Unlock(mutex) => *mutex == number,
+                Instruction::Wait { mutex, .. } => *mutex == number,
+                _ => false,
+            },
+            Use::OfCondition => match instruction {
+                Instruction::Signal(it) | Instruction::Broadcast(it) => *it == number,
+                Instruction::Wait { condition, .. } => *condition == number,
+                _ => false,
+            },
+            Use::OfSemaphore => match instruction {
+                Instruction::Acquire(it) | Instruction::Release(it) => *it == number,
+                _ => false,
+            },
+            Use::Waits => match instruction {
+                Instruction::Wait { condition, .. } => *condition == number,
+                _ => false,
+            },
+            Use::WaitsWithout(other) => match instruction {
+                Instruction::Wait { condition, mutex } => *condition == number && *mutex != other,
+                _ => false,
+            },
+            Use::Signals => match instruction {
+                Instruction::Signal(it) | Instruction::Broadcast(it) => *it == number,
+                _ => false,
+            },
+            Use::Acquires => match instruction {
+                Instruction::Acquire(semaphore) => *semaphore == number,
+                _ => false,
+            },
+            Use::Releases => match instruction {
+                Instruction::Release(semaphore) => *semaphore == number,
+                _ => false,
+            },
         }
     }
 
@@ -259,26 +197,5 @@ impl Use {
     {
         code.iter()
             .any(|instruction| self.is_made(number, instruction))
-    }
-}
-
-/// Whether an instruction is an assertion of numbers alone, without a local.
-pub fn is_constant_assert(instruction: &Instruction) -> bool
-    ensures { result ≡ is_constant instruction.now }
-{
-    match instruction {
-        Instruction::Assert(Expression::Single(Value::Literal(_))) => true,
-        Instruction::Assert(Expression::Both(Value::Literal(_), _, Value::Literal(_))) => true,
-        _ => false,
-    }
-}
-
-/// Whether an instruction is `assert 0;`, by which a guest says that no run is to come there.
-pub fn is_assert_zero(instruction: &Instruction) -> bool
-    ensures { result ≡ forbids instruction.now }
-{
-    match instruction {
-        Instruction::Assert(Expression::Single(Value::Literal(number))) => *number == 0,
-        _ => false,
     }
 }

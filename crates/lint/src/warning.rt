@@ -1,16 +1,35 @@
-//! The kinds of warnings, and whether what one warns of holds of a local, an object or an
-//! instruction.
+//! The kinds of warnings: what each is about, what is said of it, and where it is so.
 
 ghost use Rattle.std.specs.Prelude.{◌≡◌, ◌<◌, ◌↔◌, IsTrue, IfOk, length, ◌^◌, ◌≤◌};
 ghost use Rattle.guest_code.specs.Program.{code_of, JumpsWithin};
 ghost use Rattle.lint.specs.Paths.{IsReached};
-ghost use Rattle.lint.specs.Warnings.{UsesIn, UsesAnywhere, IsSo, MayKeep, MayLack, LocksAgain, IsUnseen, WaitNotLookedAtAgain, WaitsElsewhere, IsConstantAt, IsOfThread, count_of};
+ghost use Rattle.lint.specs.Warnings.{UsesIn, UsesAnywhere, IsSo, MayKeep, MayLack, LocksAgain, IsUnseen, WaitNotLookedAtAgain, WaitsElsewhere, subject_of, count_of};
 
-use crate::paths::{Watch, is_passed_over, path_marks, reaches_effect_or_end};
-use crate::uses::{Use, is_assert_zero, is_constant_assert};
+use crate::paths::{Watch, path_marks, reaches_effect_or_end};
+use crate::uses::Use;
+use guest_code::kinds::NameKind;
 use guest_code::limits::{INSTRUCTIONS, LOCALS};
 use guest_code::program::{Instruction, Program};
 use std::alloc::{AllocError, Global};
+
+/// What the warnings of a kind are about. The number of a warning says which of them is meant.
+#[derive(Clone, Copy, Debug, PartialEq, Eq)]
+pub enum Subject {
+    /// The locals of the thread of this number.
+    Local(u8),
+    /// The instructions of the thread of this number.
+    Instruction(u8),
+    /// The objects of this kind.
+    Object(NameKind),
+}
+
+const VARIABLE: Subject = Subject::Object(NameKind::Variable);
+
+const MUTEX: Subject = Subject::Object(NameKind::Mutex);
+
+const CONDITION: Subject = Subject::Object(NameKind::Condition);
+
+const SEMAPHORE: Subject = Subject::Object(NameKind::Semaphore);
 
 /// What is warned of, with the number of the thread where it is of one thread.
 #[derive(Clone, Copy, Debug, PartialEq, Eq)]
@@ -37,8 +56,6 @@ pub enum WarningKind {
     NeverWaitedFor,
     /// A semaphore starts at 0 and is acquired, and no statement releases it.
     NeverReleased,
-    /// An assertion has no local, and isn't an `assert 0;` that may be passed over.
-    Constant(u8),
     /// No path through the thread's code leads to an instruction.
     Unreached(u8),
     /// An instruction locks a mutex that on some path the thread still owns at its end.
@@ -62,35 +79,19 @@ pub struct Warning {
     pub number: usize,
 }
 
-// Whether some instruction of a thread makes this use of the local or the object of this number.
-fn is_used_in(program: &Program, thread: u8, use_: Use, number: usize) -> bool
-    requires { thread < length program.now.threads }
-    ensures { IsTrue result ↔ UsesIn program.now thread use_ number }
-{
-    use_.is_made_in(number, program.code(thread))
-}
-
-// Whether some instruction of the program makes this use of the object of this number.
-fn is_used(program: &Program, use_: Use, number: usize) -> bool
-    ensures { IsTrue result ↔ UsesAnywhere program.now use_ number }
-{
-    for thread in 0..program.threads() {
-        if use_.is_made_in(number, program.code(thread)) {
-            return true;
-        }
-    }
-    false
-}
-
-// The code of a thread. `keeps_limits` does nothing, but proves the clauses on jumps and length.
+// The code of a thread, empty where there is no such thread. `keeps_limits` does nothing, but proves
+// the clauses on jumps and length.
 fn code_of(program: &Program, thread: u8) -> &[Instruction]
-    requires { thread < length program.now.threads }
     ensures code { result.now ≡ code_of program.now thread }
     ensures jumps { JumpsWithin result.now }
     ensures short { length result.now ≤ INSTRUCTIONS }
 {
     program.keeps_limits();
-    program.code(thread)
+    if thread < program.threads() {
+        program.code(thread)
+    } else {
+        &[]
+    }
 }
 
 // Whether some path from the start of a code leads to the instruction of number `at`.
@@ -106,7 +107,7 @@ fn is_reached(alloc: Global, code: &[Instruction], at: usize) -> Result<bool, Al
 
 // Whether the instruction of number `at` is a `lock` of a mutex that on some path to there the
 // thread doesn't own yet, and that on some path from there it still owns at the end of its code.
-fn may_stay_locked(alloc: Global, code: &[Instruction], at: usize) -> Result<bool, AllocError>
+fn may_keep(alloc: Global, code: &[Instruction], at: usize) -> Result<bool, AllocError>
     requires jumps { JumpsWithin code.now }
     requires short { length code.now < 2 ^ 32 }
     requires at { at < length code.now }
@@ -122,7 +123,7 @@ fn may_stay_locked(alloc: Global, code: &[Instruction], at: usize) -> Result<boo
 
 // Whether the instruction of number `at` is an `unlock` of, or a `wait` with, a mutex that the
 // thread doesn't own on some path to there.
-fn may_unlock_unowned(alloc: Global, code: &[Instruction], at: usize) -> Result<bool, AllocError>
+fn may_lack(alloc: Global, code: &[Instruction], at: usize) -> Result<bool, AllocError>
     requires jumps { JumpsWithin code.now }
     requires short { length code.now < 2 ^ 32 }
     requires at { at < length code.now }
@@ -203,44 +204,125 @@ fn waits_with_mixed_mutexes(program: &Program, instruction: &Instruction) -> boo
     }
 }
 
-// Whether the instruction of number `at` is an assertion of numbers alone that is likely a mistake:
-// not an `assert 0;` that some jump may pass over, by which a guest says that no run comes there.
-fn is_suspicious_constant(code: &[Instruction], at: usize) -> bool
-    requires jumps { JumpsWithin code.now }
-    requires short { length code.now < 2 ^ 32 }
-    requires at { at < length code.now }
-    ensures { IsTrue result ↔ IsConstantAt code.now at }
+// Whether some instruction of a thread makes this use of the local of this number.
+fn is_used_in(program: &Program, thread: u8, use_: Use, number: usize) -> bool
+    ensures { IsTrue result ↔ UsesIn program.now thread use_ number }
 {
-    is_constant_assert(&code[at]) && !(is_assert_zero(&code[at]) && is_passed_over(code, at))
+    use_.is_made_in(number, code_of(program, thread))
 }
 
-impl WarningKind {
-    /// How many locals, objects or instructions there are that this kind may warn of.
-    pub fn count(self, program: &Program) -> usize
-        requires { IsOfThread program.now self }
+// Whether some instruction of the program makes this use of the object of this number.
+fn is_used(program: &Program, use_: Use, number: usize) -> bool
+    ensures { IsTrue result ↔ UsesAnywhere program.now use_ number }
+{
+    for thread in 0..program.threads() {
+        if use_.is_made_in(number, program.code(thread)) {
+            return true;
+        }
+    }
+    false
+}
+
+// Whether some instruction of the program makes the first of two uses of the object of this number,
+// and none makes the second.
+fn is_used_without(program: &Program, made: Use, missing: Use, number: usize) -> bool
+    ensures { IsTrue result ↔ (UsesAnywhere program.now made number
+        × (¬ UsesAnywhere program.now missing number)) }
+{
+    is_used(program, made, number) && !is_used(program, missing, number)
+}
+
+impl Subject {
+    // How many of them a program has.
+    fn count(self, program: &Program) -> usize
         ensures { result ≡ count_of program.now self }
     {
         match self {
-            WarningKind::NeverSet(thread) | WarningKind::NeverRead(thread) => program.locals(
-                thread,
-            ),
-            WarningKind::UnusedVariable | WarningKind::NeverStored | WarningKind::NeverLoaded => {
-                program.variables() as usize
+            Subject::Local(thread) => {
+                if thread < program.threads() {
+                    program.locals(thread)
+                } else {
+                    0
+                }
             }
-            WarningKind::UnusedMutex => program.mutexes() as usize,
-            WarningKind::UnusedCondition
-            | WarningKind::NeverSignalled
-            | WarningKind::NeverWaitedFor => { program.conditions() as usize }
-            WarningKind::UnusedSemaphore | WarningKind::NeverReleased =>
-                program.semaphores() as usize,
-            WarningKind::Constant(thread)
-            | WarningKind::Unreached(thread)
-            | WarningKind::MayKeep(thread)
-            | WarningKind::MayLack(thread)
-            | WarningKind::LocksAgain(thread)
-            | WarningKind::WaitNotLookedAtAgain(thread)
-            | WarningKind::WaitsElsewhere(thread) => program.code(thread).len(),
+            Subject::Instruction(thread) => code_of(program, thread).len(),
+            Subject::Object(NameKind::Variable) => program.variables() as usize,
+            Subject::Object(NameKind::Mutex) => program.mutexes() as usize,
+            Subject::Object(NameKind::Condition) => program.conditions() as usize,
+            Subject::Object(NameKind::Semaphore) => program.semaphores() as usize,
+            Subject::Object(NameKind::Thread) => program.threads() as usize,
         }
+    }
+}
+
+impl WarningKind {
+    /// What the warnings of this kind are about, and what is said of each: its number and name, and
+    /// after `: ` its message. The message of W8, W9 and W15 lacks its subject, the name of the
+    /// thread, which is written before it; W1 and W2 have none, as theirs names the local.
+    pub fn row(self) -> (Subject, &'static str)
+        ensures { result.0 ≡ subject_of self }
+    {
+        match self {
+            Self::NeverSet(thread) => (Subject::Local(thread), "W1 NeverSet"),
+            Self::NeverRead(thread) => (Subject::Local(thread), "W2 NeverRead"),
+            Self::UnusedVariable => (VARIABLE, "W3 Unused: no statement names this variable"),
+            Self::UnusedMutex => (MUTEX, "W3 Unused: no statement names this mutex"),
+            Self::UnusedCondition => (CONDITION, "W3 Unused: no statement names this condition"),
+            Self::UnusedSemaphore => (SEMAPHORE, "W3 Unused: no statement names this semaphore"),
+            Self::NeverStored => (
+                VARIABLE,
+                "W4 NeverStored: no statement writes this variable: it keeps its first value",
+            ),
+            Self::NeverLoaded => (VARIABLE, "W5 NeverLoaded: no statement reads this variable"),
+            Self::Unreached(thread) => (
+                Subject::Instruction(thread),
+                "W7 Unreached: no run comes here: what is before it always leaves",
+            ),
+            Self::MayKeep(thread) => (
+                Subject::Instruction(thread),
+                "W8 MayKeep: may end with this mutex locked: on some way to its end nothing unlocks it",
+            ),
+            Self::MayLack(thread) => (
+                Subject::Instruction(thread),
+                "W9 MayLack: may come here without this mutex: on some way to here nothing locks it, \
+                 or it is unlocked again",
+            ),
+            Self::WaitNotLookedAtAgain(thread) => (
+                Subject::Instruction(thread),
+                "W14 WaitNotLookedAtAgain: on some way from here no value is loaded and tested \
+                 before the thread goes on: a platform may wake it for nothing, a guest doesn't",
+            ),
+            Self::LocksAgain(thread) => (
+                Subject::Instruction(thread),
+                "W15 LocksAgain: comes here with this mutex locked by itself: it would wait for ever",
+            ),
+            Self::NeverSignalled => (
+                CONDITION,
+                "W16 NeverSignalled: no statement signals this condition: who waits for it waits for \
+                 ever",
+            ),
+            Self::NeverWaitedFor => (
+                CONDITION,
+                "W17 NeverWaitedFor: no statement waits for this condition",
+            ),
+            Self::NeverReleased => (
+                SEMAPHORE,
+                "W18 NeverReleased: it starts at 0 and no statement releases it: who acquires it \
+                 waits for ever",
+            ),
+            Self::WaitsElsewhere(thread) => (
+                Subject::Instruction(thread),
+                "W19 WaitsElsewhere: another statement waits for this condition with another mutex",
+            ),
+        }
+    }
+
+    /// How many locals, instructions or objects of a program the warnings of this kind are about.
+    pub fn count(self, program: &Program) -> usize
+        ensures { result ≡ count_of program.now (subject_of self) }
+    {
+        let (subject, _) = self.row();
+        subject.count(program)
     }
 
     /// Whether the local, object or instruction of this number is one that this kind warns of.
@@ -251,75 +333,46 @@ impl WarningKind {
         program: &Program,
         number: usize,
     ) -> Result<bool, AllocError>
-        requires thread { IsOfThread program.now self }
-        requires number { number < count_of program.now self }
+        requires { number < count_of program.now (subject_of self) }
         ensures { IfOk result (λ b. IsTrue b ↔ IsSo program.now self number) }
     {
         match self {
-            WarningKind::NeverSet(thread) => Ok(
+            Self::NeverSet(thread) => Ok(
                 is_used_in(program, thread, Use::Reads, number)
                     && !is_used_in(program, thread, Use::Sets, number),
             ),
-            WarningKind::NeverRead(thread) => Ok(
+            Self::NeverRead(thread) => Ok(
                 is_used_in(program, thread, Use::OnlySets, number)
                     && !is_used_in(program, thread, Use::Reads, number),
             ),
-            WarningKind::UnusedVariable => Ok(
+            Self::UnusedVariable => Ok(
                 !is_used(program, Use::Loads, number) && !is_used(program, Use::Stores, number),
             ),
-            WarningKind::NeverStored => Ok(
-                is_used(program, Use::Loads, number) && !is_used(program, Use::Stores, number),
-            ),
-            WarningKind::NeverLoaded => Ok(
-                is_used(program, Use::Stores, number) && !is_used(program, Use::Loads, number),
-            ),
-            WarningKind::UnusedMutex => Ok(!is_used(program, Use::OfMutex, number)),
-            WarningKind::UnusedCondition => Ok(!is_used(program, Use::OfCondition, number)),
-            WarningKind::UnusedSemaphore => Ok(!is_used(program, Use::OfSemaphore, number)),
-            WarningKind::NeverSignalled => Ok(
-                is_used(program, Use::Waits, number) && !is_used(program, Use::Signals, number),
-            ),
-            WarningKind::NeverWaitedFor => Ok(
-                is_used(program, Use::Signals, number) && !is_used(program, Use::Waits, number),
-            ),
-            WarningKind::NeverReleased => Ok(
+            Self::NeverStored => Ok(is_used_without(program, Use::Loads, Use::Stores, number)),
+            Self::NeverLoaded => Ok(is_used_without(program, Use::Stores, Use::Loads, number)),
+            Self::UnusedMutex => Ok(!is_used(program, Use::OfMutex, number)),
+            Self::UnusedCondition => Ok(!is_used(program, Use::OfCondition, number)),
+            Self::UnusedSemaphore => Ok(!is_used(program, Use::OfSemaphore, number)),
+            Self::NeverSignalled => Ok(is_used_without(program, Use::Waits, Use::Signals, number)),
+            Self::NeverWaitedFor => Ok(is_used_without(program, Use::Signals, Use::Waits, number)),
+            Self::NeverReleased => Ok(
                 program.initial_count(number) == 0
                     && is_used(program, Use::Acquires, number)
                     && !is_used(program, Use::Releases, number),
             ),
-            WarningKind::Constant(thread) => Ok(is_suspicious_constant(
-                code_of(program, thread),
-                number,
-            )),
-            WarningKind::Unreached(thread) => Ok(!is_reached(
+            Self::Unreached(thread) => Ok(!is_reached(alloc, code_of(program, thread), number)?),
+            Self::MayKeep(thread) => Ok(may_keep(alloc, code_of(program, thread), number)?),
+            Self::MayLack(thread) => Ok(may_lack(alloc, code_of(program, thread), number)?),
+            Self::LocksAgain(thread) => Ok(locks_again(alloc, code_of(program, thread), number)?),
+            Self::WaitNotLookedAtAgain(thread) => Ok(waits_without_recheck(
                 alloc,
                 code_of(program, thread),
                 number,
             )?),
-            WarningKind::MayKeep(thread) => Ok(may_stay_locked(
-                alloc,
-                code_of(program, thread),
-                number,
-            )?),
-            WarningKind::MayLack(thread) => Ok(may_unlock_unowned(
-                alloc,
-                code_of(program, thread),
-                number,
-            )?),
-            WarningKind::LocksAgain(thread) => Ok(locks_again(
-                alloc,
-                code_of(program, thread),
-                number,
-            )?),
-            WarningKind::WaitNotLookedAtAgain(thread) => Ok(waits_without_recheck(
-                alloc,
-                code_of(program, thread),
-                number,
-            )?),
-            WarningKind::WaitsElsewhere(thread) => Ok(waits_with_mixed_mutexes(
-                program,
-                &program.code(thread)[number],
-            )),
+            Self::WaitsElsewhere(thread) => {
+                let code = code_of(program, thread);
+                Ok(waits_with_mixed_mutexes(program, &code[number]))
+            }
         }
     }
 }

@@ -1,7 +1,7 @@
 //! All warnings of a program.
 
 ghost use Rattle.std.specs.Prelude.{◌≡◌, ◌<◌, IfOk, All};
-ghost use Rattle.lint.specs.Warnings.{Chosen, Listed, kinds_of, IsOfThread, count_of};
+ghost use Rattle.lint.specs.Warnings.{Chosen, Listed, kinds_of, subject_of, count_of};
 
 use crate::warning::{Warning, WarningKind};
 use guest_code::program::Program;
@@ -29,7 +29,6 @@ fn kinds(alloc: Global, program: &Program) -> Result<Vec<WarningKind>, AllocErro
         let kinds = [
             WarningKind::NeverSet(thread),
             WarningKind::NeverRead(thread),
-            WarningKind::Constant(thread),
             WarningKind::Unreached(thread),
             WarningKind::MayKeep(thread),
             WarningKind::MayLack(thread),
@@ -49,8 +48,8 @@ fn warnings_of(
     program: &Program,
     kind: WarningKind,
 ) -> Result<Vec<Warning>, AllocError>
-    requires { IsOfThread program.now kind }
-    ensures { IfOk result (λ v. Chosen program.now kind (count_of program.now kind) v.items) }
+    ensures { IfOk result (λ v. Chosen program.now kind
+        (count_of program.now (subject_of kind)) v.items) }
 {
     let mut all = Vec::new(alloc);
     for number in 0..kind.count(program) {

@@ -4,7 +4,6 @@
 
 mod columns;
 mod file_line;
-pub mod laws;
 mod marks;
 
 pub use crate::columns::{COLUMN, Columns, GAP, STEP, line_cell};

@@ -1,18 +1,12 @@
-use Rattle.std.proofs.Common.{◌∙◌, arith}
+use Rattle.std.proofs.Common.{arith}
 use Rattle.std.proofs.lemmas.Grind.{common_steps}
 use Rattle.lint.specs.declared.warning.WarningKind.TheVariants.{NeverSet}
-use Rattle.lint.proofs.KindsOfThreads.{of_thread}
 use Rattle.lint.proofs.WarningLists.{listed_none, listed_more}
 use Rattle.lint.proofs.warnings.all_warnings.Goals as goal
 
 pub loop-kind-init : goal.loop-kind-init
 loop-kind-init c = listed_none c.args.program.now c.deref-kind-items.result.now
     c.new-all.result.items c.new-all.ensures.items
-
-pub warnings_of-requires : goal.warnings_of-requires
-warnings_of-requires c = of_thread c.args.program.now c.deref-kind-items.result.now
-    c.loop-kind.kind-index (NeverSet 0) (c.deref-kind-items.ensures.value ∙ c.in_ok-kinds.ensures)
-    c.loop-kind-test.true
 
 pub loop-kind-preserved : goal.loop-kind-preserved
 loop-kind-preserved c = listed_more c.args.program.now c.deref-kind-items.result.now

@@ -1,2 +1,0 @@
-mod Walked
-mod Origins
