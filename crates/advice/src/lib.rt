@@ -5,7 +5,7 @@
 //!   those of the refusal.
 //! - The warnings are those of `lint`; here they get their places. With a limit, it is also told what
 //!   `lint` saw in that many schedules of the program.
-//! - [`advice_text`] answers the lines of diagnostics that `messages` defines, with carets under
+//! - [`advice_text`] answers the lines of diagnostics that `messages` writes, with carets under
 //!   the bytes in question. Above a diagnostic comes the file and line that its line comes from,
 //!   where a preprocessor's mark in the text tells it.
 //!

@@ -2,23 +2,20 @@
 //!
 //! - [`refusal::syntax_diagnostic`] and [`refusal::check_diagnostic`] answer a diagnostic whose
 //!   short form and place are those of the refusal.
-//! - [`names::near_distance`] answers how many edits lead from one name to another, where they
-//!   are few.
+//! - A note says how the statement is written that was begun or seems to be meant, or what takes
+//!   the place of a word of another language. No statement is written anew.
 //!
-//! A whole statement is proposed only where the language takes it in place of the wrong one. Which
-//! words a diagnostic has is shown by tests.
+//! Which words a diagnostic has is shown by tests.
 #![tactic(auto)]
 
-pub mod braces;
+mod braces;
 mod faults;
 mod forms;
-mod keywords;
 pub mod message;
 pub mod names;
+mod notes;
 pub mod pieces;
-mod proposals;
 pub mod refusal;
-mod rules;
 mod site;
 mod syntax;
 mod words;

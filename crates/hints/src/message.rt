@@ -32,6 +32,14 @@ impl Message {
         self.with_note_at(None, note)
     }
 
+    /// Adds a note without a place, if there is one. Fails where memory runs out.
+    pub fn with_hint(self, hint: Option<&'static str>) -> Result<Message, AllocError> {
+        match hint {
+            Some(hint) => self.with_note(hint),
+            None => Ok(self),
+        }
+    }
+
     /// Adds a note on the bytes of a span, or, where that is `None`, one without a place. Fails
     /// where memory runs out.
     pub fn with_note_at(

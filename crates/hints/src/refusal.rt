@@ -48,8 +48,8 @@ fn check_place(tree: &Tree, error: CheckError) -> Option<Pos>
     }
 }
 
-/// The diagnostic on a text that the parser refuses with this error: a refusal with the error as
-/// headline, and with a message on what to write instead. Fails where memory runs out.
+/// The diagnostic on a text that the parser refuses with this error, with the error as headline, and
+/// a message on what to write instead. Fails where memory runs out.
 pub fn syntax_diagnostic(
     alloc: Global,
     text: &[u8],
@@ -65,9 +65,9 @@ pub fn syntax_diagnostic(
     Ok(message.into_diagnostic(Severity::Refusal, headline, Some(span_at(&pieces, at))))
 }
 
-/// The diagnostic on a text whose tree is no program, for this error: a refusal with the error as
-/// headline, and with a message on what to write instead. It has no span where the error has none.
-/// Fails where memory runs out.
+/// The diagnostic on a text whose tree is no program, for this error, which is its headline, with a
+/// message on what to write instead. It has no span where the error has no place. Fails where memory
+/// runs out.
 pub fn check_diagnostic(
     alloc: Global,
     text: &[u8],
@@ -80,7 +80,7 @@ pub fn check_diagnostic(
     let pieces = pieces(alloc, text)?;
     let at = check_place(tree, error);
     let site = FaultSite::new(&pieces, at.unwrap_or(START));
-    let message = fault_message(alloc, site, tree, error)?;
+    let message = fault_message(alloc, site, error)?;
     let headline = format!(in alloc; "{error}")?;
     let span = match at {
         Some(at) => Some(span_at(&pieces, at)),

@@ -1,7 +1,7 @@
 //! The place at which a text is refused, and what the text has round it.
 
-use crate::forms::{Form, Slot};
-use crate::pieces::{closing_index, is_boundary, is_first_in_line, piece_index_at, text_of};
+use crate::forms::slot;
+use crate::pieces::{is_boundary, is_first_in_line, piece_index_at, text_of};
 use guest_syntax::pieces::Piece;
 use guest_syntax::place::Pos;
 
@@ -37,71 +37,92 @@ impl<'a> FaultSite<'a> {
         piece.map_or("", |piece| text_of(piece.text))
     }
 
-    /// What was found at the fault's place: the piece there, as a string; an empty one at the end
-    /// of the text.
+    /// The piece at the fault's place, as a string; an empty one at the end of the text.
     pub fn found(&self) -> &'a str {
         self.piece(self.at)
     }
 
-    /// The first piece of the statement or declaration with the fault, as a string: its keyword, or
-    /// what is in the keyword's stead.
+    /// The first piece of the statement or declaration, as a string: its keyword, or what is there
+    /// in the keyword's stead.
     pub fn keyword(&self) -> &'a str {
         self.piece(self.start)
     }
 
-    /// The index of the first piece after the statement or declaration with the fault: a `;`, `{`
-    /// or `}`, or the first piece of a later line. The number of pieces where there is none.
+    /// The index of the first piece after the statement or declaration: a `;`, `{` or `}`, or the
+    /// first piece of a later line. The number of pieces where there is none.
     pub fn end(&self) -> usize {
-        for i in self.start.saturating_add(1)..self.pieces.len() {
-            if self.pieces.get(i).is_some_and(is_boundary) || is_first_in_line(self.pieces, i) {
-                return i;
-            }
-        }
-        self.pieces.len()
+        let all = self.pieces;
+        let is_end = |i: &usize| {
+            all.get(*i).is_some_and(is_boundary) || is_first_in_line(all, *i)
+        };
+        let mut after = self.start.saturating_add(1)..all.len();
+        after.find(is_end).unwrap_or(all.len())
     }
 
     /// What has to be at the fault's place, by the form of the statement or declaration. `None`
     /// where the keyword is wrong, or the form ends before. A number and its sign fill one slot.
-    pub fn slot(&self) -> Option<Slot> {
-        let form = Form::with_keyword(self.keyword())?;
+    pub fn slot(&self) -> Option<&'static str> {
+        let keyword = self.keyword();
         let mut places = 0;
         for at in self.start.saturating_add(1)..self.at {
-            match (self.piece(at), form.slot(places)) {
-                ("-", Some(Slot("VALUE" | "AMOUNT" | "OLD" | "NEW" | "NUMBER"))) => {}
+            match (self.piece(at), slot(keyword, places)) {
+                ("-", Some("VALUE" | "AMOUNT" | "OLD" | "NEW" | "NUMBER")) => {}
                 _ => places = places.saturating_add(1),
             }
         }
-        form.slot(places)
+        slot(keyword, places)
     }
 
-    /// Whether the statement or declaration may end before the fault's place, with a `;` that is
-    /// missing: its form may end there, and the piece there begins a line, or the text has ended.
-    pub fn may_end_before(&self) -> bool {
-        let may_end = match (self.slot(), self.keyword()) {
-            (Some(Slot("OP")), keyword) => keyword != "if",
-            (Some(Slot("=")), keyword) => keyword == "var",
-            (slot, _) => slot == Some(Slot(";")),
+    /// The last piece before the fault's place, if a `;` seems to be missing after it: the form of
+    /// the statement may end there, and a new line begins, or the text has ended.
+    pub fn unended(&self) -> Option<Piece<'a>> {
+        let may_end = match self.slot() {
+            Some("OP") => self.keyword() != "if",
+            Some("=") => self.keyword() == "var",
+            slot => slot == Some(";"),
         };
-        may_end && (self.at >= self.pieces.len() || is_first_in_line(self.pieces, self.at))
+        let is_last = self.at >= self.pieces.len() || is_first_in_line(self.pieces, self.at);
+        if !may_end || !is_last {
+            return None;
+        }
+        self.pieces.get(self.at.saturating_sub(1)).copied()
     }
 
     /// Whether the fault's place is in a block: one that is closed there, or later, or never.
     pub fn is_in_block(&self) -> bool {
-        let is_open = |open| closing_index(self.pieces, open).is_none_or(|close| self.at <= close);
-        (0..self.at).any(|i| self.piece(i) == "{" && is_open(i))
+        let mut depth = 0_usize;
+        for piece in self.pieces.iter().take(self.at) {
+            match piece.text {
+                b"{" => depth = depth.saturating_add(1),
+                b"}" => depth = depth.saturating_sub(1),
+                _ => {}
+            }
+        }
+        depth > 0
     }
 
-    /// Whether a variable with this name is declared before the faulty statement or declaration.
+    // The first place where a name follows one of these keywords: the keyword, and the name there.
+    fn first_after(&self, keywords: &[&str], name: &str) -> Option<(&'a str, &'a Piece<'a>)> {
+        let words = self.pieces.iter().map(|piece| text_of(piece.text));
+        let mut all = words.zip(self.pieces.iter().skip(1));
+        all.find(|(word, piece)| piece.text == name.as_bytes() && keywords.contains(word))
+    }
+
+    /// The keyword by which the text declares a name first, and the name there; `None` where it
+    /// doesn't.
+    pub fn declaration(&self, name: &str) -> Option<(&'a str, &'a Piece<'a>)> {
+        self.first_after(&["var", "mutex", "cond", "sem", "thread"], name)
+    }
+
+    /// Whether the text declares a variable of this name.
     pub fn is_variable(&self, name: &str) -> bool {
-        let mut all = 1..self.start;
-        all.any(|i| self.piece(i) == name && self.piece(i.saturating_sub(1)) == "var")
+        self.declaration(name)
+            .is_some_and(|(keyword, _)| keyword == "var")
     }
 
-    /// Whether a local has this name: somewhere in the text, the name follows the keyword of a
-    /// statement that gives a local a value.
+    /// Whether a local has this name: somewhere a statement gives it a value.
     pub fn is_local(&self, name: &str) -> bool {
-        let mut all = 1..self.pieces.len();
-        let is_setter = |at: usize| matches!(self.piece(at), "load" | "set" | "add" | "cas");
-        all.any(|i| self.piece(i) == name && is_setter(i.saturating_sub(1)))
+        self.first_after(&["load", "set", "add", "cas"], name)
+            .is_some()
     }
 }

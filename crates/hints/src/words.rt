@@ -1,127 +1,84 @@
-//! What a wrong statement or declaration seems to say, in words of this language, as the patterns
-//! of rules have them.
+//! What words of other languages stand for in this one, and what takes the place of what isn't in
+//! it.
 
-use crate::forms::{DECLARATIONS, STATEMENTS};
-use crate::keywords::{declaration_keyword, nearest_keyword, statement_keyword};
-use crate::pieces::is_name;
-use crate::site::FaultSite;
-use std::alloc::{AllocError, Global};
+use crate::forms::{DECLARATIONS, STATEMENTS, form, form_in, keyword_of};
 
-impl<'a> FaultSite<'a> {
-    // Translates the piece at index `at`, of this language or another one, and adds to `words` what
-    // it says in this one: at the start of a statement or after its `=` a keyword, if it stands for
-    // one. `and` becomes `&&`, `true` becomes `1`, `not x` becomes `x == 0`, and the `=` of an `if`
-    // becomes `==`. For the `load` of `x.load`, the `x` in `words` becomes `load x`; for a second
-    // `&`, the first becomes `&&`. Parentheses, commas, types and memory orders add nothing.
-    fn translate_piece(self, words: &mut Vec<&'a str>, at: usize) -> Result<(), AllocError> {
-        let (before, word) = (self.piece(at.saturating_sub(1)), self.piece(at));
-        match (before, word) {
-            (_, "(" | ")" | "," | "." | ":" | "unwrap" | "is_ok" | "SeqCst" | "Ordering") => {}
-            ("(" | ",", "&") => {}
-            (":", _) if word != "=" && self.piece(at.saturating_sub(2)) != ":" => {}
-            (".", _) if is_name(word) => {
-                let object = words.pop();
-                words.push(statement_keyword(word).unwrap_or(word))?;
-                words.push(object.unwrap_or(""))?;
-            }
-            ("&", "&") | ("|", "|") => {
-                words.pop();
-                words.push(if word == "&" { "&&" } else { "||" })?;
-            }
-            (_, "and") => words.push("&&")?,
-            (_, "or") => words.push("||")?,
-            ("!" | "not", _) if is_name(word) => words.extend_from_slice(&[word, "==", "0"])?,
-            (_, "!" | "not") if is_name(self.piece(at.saturating_add(1))) => {}
-            (_, "=") if matches!(self.keyword(), "if" | "assert") => words.push("==")?,
-            (_, "true") => words.push("1")?,
-            (_, "false" | "null" | "NULL" | "None") => words.push("0")?,
-            _ if matches!(words.as_slice(), [] | [_, "="]) && self.is_in_block() => {
-                words.push(statement_keyword(word).unwrap_or(word))?;
-            }
-            _ => words.push(word)?,
-        }
-        Ok(())
-    }
+// Rows `WORDS: SAID`: for words that begin a statement in other languages, the keyword that stands
+// for them, or else what is told of them; also what a `{` or `;` in place of a statement may mean.
+static STATEMENT_WORDS: [&str; 38] = [
+    "get read atomic_load: load",
+    "write put atomic_store: store",
+    "fetch_add atomic_fetch_add getAndAdd: add",
+    "compare_exchange compareAndSet: cas",
+    "mutex_lock pthread_mutex_lock spin_lock: lock",
+    "mutex_unlock pthread_mutex_unlock spin_unlock: unlock",
+    "pthread_cond_wait: wait",
+    "notify notify_one wake: signal",
+    "notify_all notifyAll signal_all signalAll: broadcast",
+    "P down sem_wait: acquire",
+    "V up post sem_post: release",
+    "fail abort: assert",
+    "break: leave",
+    "elif elseif: else",
+    "for while loop do: repeat",
+    "sub fetch_sub atomic_fetch_sub: an amount may be negative: add LOCAL VAR -1;",
+    "swap xchg exchange atomic_exchange getAndSet: \
+     not in the language: see `Swap` in docs/COOKBOOK.md",
+    "trylock try_lock tryLock mutex_trylock pthread_mutex_trylock spin_trylock: \
+     not in the language: see `Try-lock` in docs/COOKBOOK.md",
+    "tryacquire try_acquire tryAcquire trywait sem_trywait: \
+     not in the language: see `Try-lock` in docs/COOKBOOK.md",
+    "rdlock rlock RLock read_lock wrlock wlock write_lock rwlock runlock RUnlock read_unlock: \
+     not in the language: see `Lock for readers and writers` in docs/COOKBOOK.md",
+    "timedwait timed_wait wait_timeout pthread_cond_timedwait sem_timedwait: \
+     not in the language: see `Time-out` in docs/COOKBOOK.md",
+    "send recv receive: not in the language: see `Bounded channel` in docs/COOKBOOK.md",
+    "select: not in the language: see `Select` in docs/COOKBOOK.md",
+    "park unpark: not in the language: see `Park and unpark` in docs/COOKBOOK.md",
+    "barrier: not in the language: see `Barrier` in docs/COOKBOOK.md",
+    "await until: not in the language: see `Await` in docs/COOKBOOK.md",
+    "fence mfence smp_mb: leave it out: each step sees all that the steps before it did",
+    "sleep yield: leave it out: a thread may be interrupted before each of its steps",
+    "spawn go: all threads begin at once",
+    "join: acquire a semaphore that the other thread releases at its end",
+    "atomic synchronized: lock a mutex before these steps, and unlock it after them",
+    "continue goto: `leave` leaves the nearest `repeat`, and there is no other jump",
+    "exit halt return: a thread ends at the end of its braces; put the rest into an `if`",
+    "skip pass: leave it out: a block may be empty",
+    "print printf println: nothing is printed: a replay tells each step",
+    "switch match: an `if` for each case, one in the `else` of another, does the same",
+    "{: a block belongs to a thread, an `if`, an `else` or a `repeat`",
+    ";: is this `;` one too many?",
+];
 
-    /// The words of the statement at the site in this language: keywords and operators of other
-    /// languages are translated, and a first word that is no keyword is replaced by the nearest
-    /// one, if one is near and no `=`, `+`, `-` or `*` is next, as in an assignment. Fails where
-    /// memory runs out.
-    pub fn statement_words(self, alloc: Global) -> Result<Vec<&'a str>, AllocError> {
-        let mut words = Vec::new(alloc);
-        let end = self.end();
-        // a `while` whose block is one `load` is taken with its block, for the rules on waiting
-        let end = match (self.keyword(), self.piece(end.saturating_add(1))) {
-            ("while", "load") if self.piece(end.saturating_add(5)) == "}" => end.saturating_add(6),
-            _ => end,
-        };
-        for at in self.start..end {
-            // the `int` or `let` of a local is left out, since a local isn't declared
-            if !words.is_empty() || declaration_keyword(self.piece(at)) != Some("var") {
-                self.translate_piece(&mut words, at)?;
-            }
-        }
-        let first = words.first().copied().unwrap_or("");
-        let second = words.get(1).copied().unwrap_or("");
-        if statement_keyword(first).is_none() && !matches!(second, "=" | "+" | "-" | "*") {
-            let nearest = nearest_keyword(alloc, &STATEMENTS, first)?;
-            if let (Some(keyword), Some(word)) = (nearest, words.first_mut()) {
-                *word = keyword;
-            }
-        }
-        Ok(words)
-    }
+// The same for words that begin a declaration or a thread, each with the keyword for it.
+static DECLARATION_WORDS: [&str; 6] = [
+    "int let mut const static volatile atomic shared: var",
+    "bool byte long unsigned auto global atomic_int: var",
+    "lock pthread_mutex_t: mutex",
+    "condition condvar pthread_cond_t: cond",
+    "semaphore sem_t: sem",
+    "process proctype active fn func def void go: thread",
+];
 
-    /// The words of the declaration at the site in this language, or of a thread up to its `{`. The
-    /// first is the keyword that seems meant, or an empty word where none is near. Fails where
-    /// memory runs out.
-    pub fn declaration_words(self, alloc: Global) -> Result<Vec<&'a str>, AllocError> {
-        let (mut words, mut kind) = (Vec::new(alloc), None);
-        for at in self.start..self.end() {
-            match declaration_keyword(self.piece(at)) {
-                Some(keyword) if words.is_empty() => kind = Some(keyword),
-                _ => self.translate_piece(&mut words, at)?,
-            }
-        }
-        let is_thread = self.piece(self.end()) == "{";
-        let keyword = match (kind, words.as_slice()) {
-            (Some("var"), _) | (None, [_]) if is_thread => "thread",
-            (Some(keyword), _) => keyword,
-            (None, [_, "=", ..]) => "var",
-            (None, [first, ..]) if statement_keyword(first).is_none() => {
-                let nearest = nearest_keyword(alloc, &DECLARATIONS, first)?;
-                words.remove(0);
-                nearest.unwrap_or("")
-            }
-            _ => "",
-        };
-        words.insert(0, keyword)?;
-        Ok(words)
-    }
+// What the row of a table says that has a word among its words.
+fn said_of(table: &[&'static str], word: &str) -> Option<&'static str> {
+    let mut rows = table.iter().filter_map(|row| row.split_once(": "));
+    let row = rows.find(|(words, _)| words.split(' ').any(|other| other == word));
+    row.map(|(_, said)| said)
 }
 
-/// The words of a statement, brought to the form `x = 1` or `x = x + 1` where it gives `x` a value:
-/// by `load`, `store` or `set`, by an operator as `+=`, or by `++` or `--`. The words of any other
-/// statement as they are. Fails where memory runs out.
-pub fn assignment_words<'a>(alloc: Global, words: &[&'a str]) -> Result<Vec<&'a str>, AllocError> {
-    let (given, is_assignment) = match words {
-        ["load" | "store" | "set", given @ ..] => (given, true),
-        _ => (words, false),
-    };
-    let has_sign = given.iter().any(|word| *word == "=");
-    match given {
-        [name, operator @ ("+" | "-"), second] | [operator @ ("+" | "-"), second, name]
-            if operator == second => {
-            Vec::from_slice(alloc, &[*name, "=", *name, *operator, "1"])
-        }
-        [name, operator, "=", value] => {
-            Vec::from_slice(alloc, &[*name, "=", *name, *operator, *value])
-        }
-        [name, value @ ..] if is_assignment && !has_sign => {
-            let mut all = Vec::from_slice(alloc, &[*name, "="])?;
-            all.extend_from_slice(value)?;
-            Ok(all)
-        }
-        _ => Vec::from_slice(alloc, given),
+/// The keyword for a declaration or a thread that begins with this word, in this language or
+/// another one, as `var` for `int`; `None` where none begins with the word.
+pub fn declaration_keyword(word: &str) -> Option<&'static str> {
+    said_of(&DECLARATION_WORDS, word).or(form_in(&DECLARATIONS, word).map(keyword_of))
+}
+
+/// What is told of a statement that begins with this word, in this language or another one: how it
+/// is written, or what takes its place. `None` where nothing is known of the word.
+pub fn statement_words(word: &str) -> Option<&'static str> {
+    match said_of(&STATEMENT_WORDS, word) {
+        Some(said) => Some(form(said).unwrap_or(said)),
+        None => form_in(&STATEMENTS, word),
     }
 }
