@@ -95,7 +95,8 @@ RUNS = [
     ("explain", "race", "0,1,0 --json", 1), ("explain", "updates", "--json", 0),
     ("check", "unknown", "", 2), ("check", "cut", "", 2), ("check", "odd", "", 0), ("check", "odd", "--deep", 0),
     ("explore", "late", "--under 0", 1), ("explore", "late", "--under 0 --workers 2", 1), ("explore", "race", "--under 7", 2),
-    ("unbounded", "locks", "--under 0 --workers 2", 1),
+    ("unbounded", "locks", "--under 0 --workers 2", 1), ("prefixes", "late", "--at-least 4", 0),
+    ("prefixes", "locks", "--unbounded", 0), ("prefixes", "cut", "", 2),
 ]
 # A guest, of which two parts are joined, the guest that they are of, and the status with ample memory.
 JOINS = [("late", "late", 1), ("updates", "updates", 0), ("race", "updates", 2)]

@@ -90,6 +90,11 @@ def level(tried, beyond, bound, prefix, text):
     return compact(told)
 
 
+def changed(line, **values):
+    """A line with other values of some keys."""
+    return compact(dict(json.loads(line), **values))
+
+
 def levels(everything, bound, prefix, text):
     """The lines of a part, and its status."""
     under = [one for one in everything if one.schedule[:len(prefix)] == prefix]
@@ -177,6 +182,15 @@ class Parts(Tester):
             self.expect(name, got == (lines, "", status), got, (lines, status))
             self.lines += lines.count("\n")
 
+    def far(self, bound):
+        """Under a prefix with more preemptions than a bound can have: the two schedules that are left have 68 and 67."""
+        path, search, prefix = self.folder / "far.guest", search_of(bound), (0, 1) * 34
+        path.write_text("var x; thread A { repeat 35 { store x 1; } } thread B { repeat 35 { store x 2; } }")
+        guest, text = Guest(path.read_text()), path.read_bytes()
+        wanted, status = levels([complete(guest, prefix + (0, 1)), complete(guest, prefix + (1, 0))], bound, prefix, text)
+        got = self.under(path, search, schedule_text(prefix))
+        self.expect("%s under 67 preemptions" % search.command, got == (wanted, "", status), got, wanted)
+
     # ---- what is missing or refused
 
     def refused(self, what, path, search, lines, told, status):
@@ -217,9 +231,23 @@ class Parts(Tester):
 
     def disagree(self, path, search, prefixes, lines):
         told = json.loads(lines[0])
-        other = compact(dict(told, tried=told["tried"] + 1))
-        self.refused("two that differ", path, search, lines + [other],
+        self.refused("two that differ", path, search, lines + [changed(lines[0], tried=told["tried"] + 1)],
                      "parts: two parts disagree at bound %s under %s" % (told["bound"], told["under"]), 2)
+
+    def untrue(self, path, search):
+        """A schedule that isn't complete, doesn't run, isn't under its prefix or isn't within its bound, of lines that
+        count and of one without a bound, which doesn't."""
+        lines = [line for out, _, _ in self.parts(path, search, self.prefixes(path, search, 3)) for line in
+                 out.splitlines(True)]
+        line = next(line for line in lines if json.loads(line)["schedule"])
+        told, other = json.loads(line), json.loads(lines[0])["under"]
+        for bound, under, schedule in ((1, told["under"], told["under"]), (1, told["under"], told["schedule"] + ",1"),
+                                       (1, other, told["schedule"]), (0, told["under"], told["schedule"]),
+                                       (None, told["under"], told["under"])):
+            place = "%s under %s" % ("" if bound is None else " at bound %d" % bound, under)
+            self.refused("%s%s" % (schedule, place), path, search,
+                         lines + [changed(line, bound=bound, under=under, schedule=schedule)],
+                         "parts: an untrue schedule" + place, 2)
 
     def of_another(self, path, search, other):
         lines = [out for out, _, _ in self.parts(other, search, self.prefixes(other, search, 1))]
@@ -311,6 +339,9 @@ class Parts(Tester):
         self.missing(fixed, search_of(2))
         self.of_another(fixed, search_of(2), first)
         self.no_lines(first, search_of(2))
+        self.untrue(first, search_of(2))
+        for bound in (64, None):
+            self.far(bound)
         for bound in (2, None):
             self.hostile(first, search_of(bound))
             self.files(first, search_of(bound))
