@@ -5,7 +5,7 @@ use Rattle.semantics.specs.declared.mask.Mask.{Mask}
 use Rattle.schedules.specs.Schedules.{begins_with}
 use Rattle.items.specs.declared.mode.Mode.{Mode}
 use Rattle.items.specs.declared.mode.Mode.TheVariants.{Reduced}
-use Rattle.items.specs.Items.{ItemView, root_of, schedules_of}
+use Rattle.items.specs.Items.{ItemView, root_of, everything}
 use Rattle.items.specs.Walks.{IsBelow, HasItsOf}
 
 -- the item of the program's schedules that begin with the prefix
@@ -14,9 +14,9 @@ pub record IsUnder (mode : Mode) (p : Program) (prefix : List ℕ) (i : ItemView
   pub below : IsBelow (root_of p) i
   pub own : HasItsOf mode (root_of p) i
 
--- none of the program's schedules begins with the prefix
+-- none of the program's schedules, whatever its preemptions, begins with the prefix
 abbrev pub HasNoneUnder : Mode → Program → List ℕ → Type 0
-HasNoneUnder mode p prefix = filter (begins_with prefix) (schedules_of mode (root_of p)) ≡ []
+HasNoneUnder mode p prefix = filter (begins_with prefix) (everything mode (root_of p)) ≡ []
 
 -- these threads sleep after the prefix
 abbrev pub IsAsleepAfter : Program → List ℕ → Mask → Type 0
