@@ -1,11 +1,18 @@
 //! What can be asked of one guest program.
 
-ghost use Rattle.std.specs.Prelude.{◌≤◌};
-ghost use Rattle.report.specs.Promises.{IsSearch};
+ghost use Rattle.std.specs.Prelude.{◌≡◌, ◌≤◌, false, IfOk, IfErr};
+ghost use Rattle.std.specs.Arc.{arc_value};
+ghost use Rattle.report.specs.Promises.{IsReport, IsSearch};
+ghost use Rattle.report.specs.declared.error.ExploreError.TheVariants.{OutOfMemory};
 ghost use Rattle.workers.specs.declared.limits.TheConstants.{WORKERS};
 ghost use Rattle.answering.specs.inner.Searches.{IsSearch-prop};
 
-use report::{Options, Search};
+use crate::host::Host;
+use crate::progress::ProgressGate;
+use guest_code::program::Program;
+use report::{ExploreError, Options, Report, Search};
+use runner::explore;
+use std::sync::Arc;
 
 /// The bound of a search, in preemptions, where the command words give none.
 pub const DEFAULT_BOUND: u32 = 2;
@@ -43,5 +50,20 @@ impl Default for Exploration {
             workers: 1,
             progress: false,
         }
+    }
+}
+
+impl Exploration {
+    /// The report of this search of a program.
+    ///
+    /// # Errors
+    ///
+    /// `OutOfMemory` where memory runs out.
+    pub fn report<H: Host>(self, rt: &H, program: &Arc<Program>) -> Result<Report, ExploreError>
+        ensures report { IfOk result (IsReport false (arc_value program.now) self.options) }
+        ensures error { IfErr result (λ e. e ≡ OutOfMemory) }
+    {
+        let gate = ProgressGate::new(rt, self.progress);
+        explore(rt, rt.alloc(), program, self.options, self.workers, &gate)
     }
 }

@@ -1,36 +1,38 @@
 //! Why the program has no answer to what it was asked.
 
 ghost use Rattle.std.specs.Prelude.{◌≡◌};
-ghost use Rattle.answering.specs.Status.{fault_status};
-ghost use Rattle.answering.specs.Lines.{fault_line};
-ghost use Rattle.answering.specs.Serve.{IsWritten};
+ghost use Rattle.std.specs.IoError.{error_kind};
+ghost use Rattle.answering.specs.declared.fault.Fault.TheVariants.{Text, Schedule, Replay, Memory};
+ghost use Rattle.answering.specs.Status.{fault_status, IsDeviceFault};
 
-use guest_code::error::CheckError;
-use guest_syntax::SyntaxError;
 use replay::{ReplayError, ScheduleError};
 use runner::ExploreError;
 use std::alloc::{AllocError, AllocFailed};
+use std::io;
 use std::io::{ErrorKind, Write};
-use std::{fmt, io};
+use thiserror::Error;
 
 /// The status that the program ends with where what the user gave is refused.
 pub const REFUSED: u8 = 2;
 
 /// Why the program has no answer to what it was asked. Faults are looked for in the order of the
-/// variants.
-#[derive(Debug, Drop)]
+/// variants. Out of memory is told alike, whatever it was met at.
+#[derive(Debug, Drop, Error)]
 pub enum Fault {
     /// The file can't be read, or the output can't be written.
+    #[error("file")]
     File,
     /// The text spells no program.
-    Syntax(SyntaxError),
-    /// The program is not sound.
-    Check(CheckError),
+    #[error("{0}")]
+    Text(ExploreError),
     /// The schedule's text spells no schedule.
+    #[error("{0}")]
     Schedule(ScheduleError),
     /// The schedule doesn't run.
+    #[error("{0}")]
     Replay(ReplayError),
     /// Memory ran out.
+    #[error("memory")]
     Memory,
 }
 
@@ -41,135 +43,50 @@ impl Fault {
         ensures { result ≡ fault_status self.now }
     {
         match self {
-            Fault::File | Fault::Memory => 4,
-            Fault::Syntax(_) | Fault::Check(_) | Fault::Schedule(_) | Fault::Replay(_) => REFUSED,
+            Fault::File
+            | Fault::Text(ExploreError::OutOfMemory)
+            | Fault::Schedule(ScheduleError::OutOfMemory)
+            | Fault::Replay(ReplayError::OutOfMemory)
+            | Fault::Memory => 4,
+            Fault::Text(_) | Fault::Schedule(_) | Fault::Replay(_) => REFUSED,
         }
     }
 
-    /// Writes the fault's line to `err`: the name of the program, the message for the user, and a
-    /// line feed.
-    ///
-    /// # Errors
-    ///
-    /// The error of `err`, where it can't be written.
-    pub fn write_line<E: Write>(&self, err: &mut E) -> io::Result<()>
-        ensures { IsWritten result (E.contents err.old) (E.contents err.new) (fault_line self.now) }
-    {
-        writeln!(err, "ctxbound: {self}")
-    }
-
-    /// Writes the fault's line to `err`, and answers the fault's status, whether or not `err`
-    /// fails.
+    /// Writes the fault's line to `err`, the name of the program and the message, and answers the
+    /// fault's status, whether or not `err` fails.
     pub fn report<E: Write>(&self, err: &mut E) -> u8
         ensures { result ≡ fault_status self.now }
     {
-        let _ = self.write_line(err);
+        let _ = writeln!(err, "ctxbound: {self}");
         self.status()
     }
 }
 
-impl fmt::Display for Fault {
-    ghost use Rattle.std.specs.Prelude.{Some};
-    ghost use Rattle.answering.specs.Lines.{fault_text};
+impl From<ExploreError> for Fault {
+    ghost from_gives = { λ e fault. fault ≡ Text e };
 
-    ghost output = { λ fault. Some (fault_text fault) };
-
-    // The message for the user, to follow the name of the program: the word `file` or `memory`, or
-    // the message of a refusal, which has its number, its name and its place.
-    fn fmt<W: fmt::Write>(&self, f: &mut fmt::Formatter<W>) -> fmt::Result {
-        match self {
-            Fault::File => write!(f, "file"),
-            Fault::Syntax(error) => write!(f, "{error}"),
-            Fault::Check(error) => write!(f, "{error}"),
-            Fault::Schedule(error) => write!(f, "{error}"),
-            Fault::Replay(error) => write!(f, "{error}"),
-            Fault::Memory => write!(f, "memory"),
-        }
-    }
-}
-
-impl std::error::Error for Fault {}
-
-impl From<SyntaxError> for Fault {
-    ghost use Rattle.std.specs.Prelude.{◌≡◌};
-    ghost use Rattle.answering.specs.Answer.{of_syntax};
-
-    ghost from_gives = { λ e fault. fault ≡ of_syntax e };
-
-    // Out of memory is the fault `Memory`, else the text is refused.
-    fn from(error: SyntaxError) -> Fault {
-        match error {
-            SyntaxError::OutOfMemory => Fault::Memory,
-            error => Fault::Syntax(error),
-        }
-    }
-}
-
-impl From<CheckError> for Fault {
-    ghost use Rattle.std.specs.Prelude.{◌≡◌};
-    ghost use Rattle.answering.specs.Answer.{of_check};
-
-    ghost from_gives = { λ e fault. fault ≡ of_check e };
-
-    // Out of memory is the fault `Memory`, else the program is refused.
-    fn from(error: CheckError) -> Fault {
-        match error {
-            CheckError::OutOfMemory => Fault::Memory,
-            error => Fault::Check(error),
-        }
+    fn from(error: ExploreError) -> Fault {
+        Fault::Text(error)
     }
 }
 
 impl From<ScheduleError> for Fault {
-    ghost use Rattle.std.specs.Prelude.{◌≡◌};
-    ghost use Rattle.answering.specs.Answer.{of_schedule};
+    ghost from_gives = { λ e fault. fault ≡ Schedule e };
 
-    ghost from_gives = { λ e fault. fault ≡ of_schedule e };
-
-    // Out of memory is the fault `Memory`, else the schedule's text is refused.
     fn from(error: ScheduleError) -> Fault {
-        match error {
-            ScheduleError::OutOfMemory => Fault::Memory,
-            error => Fault::Schedule(error),
-        }
+        Fault::Schedule(error)
     }
 }
 
 impl From<ReplayError> for Fault {
-    ghost use Rattle.std.specs.Prelude.{◌≡◌};
-    ghost use Rattle.answering.specs.Answer.{of_replay};
+    ghost from_gives = { λ e fault. fault ≡ Replay e };
 
-    ghost from_gives = { λ e fault. fault ≡ of_replay e };
-
-    // Out of memory is the fault `Memory`, else a step of the schedule can't be taken.
     fn from(error: ReplayError) -> Fault {
-        match error {
-            ReplayError::OutOfMemory => Fault::Memory,
-            error => Fault::Replay(error),
-        }
-    }
-}
-
-impl From<ExploreError> for Fault {
-    ghost use Rattle.std.specs.Prelude.{◌≡◌};
-    ghost use Rattle.answering.specs.Answer.{of_explore};
-
-    ghost from_gives = { λ e fault. fault ≡ of_explore e };
-
-    // The fault of the text or of the program, as the error says; out of memory is `Memory`.
-    fn from(error: ExploreError) -> Fault {
-        match error {
-            ExploreError::Syntax(error) => Fault::from(error),
-            ExploreError::Check(error) => Fault::from(error),
-            ExploreError::OutOfMemory => Fault::Memory,
-        }
+        Fault::Replay(error)
     }
 }
 
 impl From<AllocError> for Fault {
-    ghost use Rattle.std.specs.Prelude.{◌≡◌};
-    ghost use Rattle.answering.specs.declared.fault.Fault.TheVariants.{Memory};
-
     ghost from_gives = { λ _ fault. fault ≡ Memory };
 
     fn from(_error: AllocError) -> Fault {
@@ -178,9 +95,6 @@ impl From<AllocError> for Fault {
 }
 
 impl<T: Drop> From<AllocFailed<T>> for Fault {
-    ghost use Rattle.std.specs.Prelude.{◌≡◌};
-    ghost use Rattle.answering.specs.declared.fault.Fault.TheVariants.{Memory};
-
     ghost from_gives = { λ _ fault. fault ≡ Memory };
 
     fn from(_error: AllocFailed<T>) -> Fault {
@@ -189,9 +103,6 @@ impl<T: Drop> From<AllocFailed<T>> for Fault {
 }
 
 impl From<io::Error> for Fault {
-    ghost use Rattle.std.specs.IoError.{error_kind};
-    ghost use Rattle.answering.specs.Answer.{IsDeviceFault};
-
     ghost from_gives = { λ e fault. IsDeviceFault (error_kind e) fault };
 
     // Out of memory is the fault `Memory`, each other error of a file or stream the fault `File`.

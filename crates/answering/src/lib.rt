@@ -5,32 +5,31 @@
 //!   with the trace of what it finds or without. [`Limits`] say how far each search goes of a
 //!   guest of a suite, or of one that is to be right. A [`Request`] is all that command words can
 //!   ask for.
-//! - [`replay_text`], [`explore_text`] and [`explore_and_trace`] answer it for the bytes of texts.
-//!   Their contracts speak of nothing else.
-//! - [`Fault`] is why there is no answer, the line that tells so, and its status.
-//! - An [`Answer`] is all that is written, and the status. [`serve`] reads a text, answers and
-//!   writes; [`exit_status`] is the status that the program ends with then; [`serve_file`] does all
-//!   that with a file.
+//! - [`answer_to`] answers it for the bytes of texts, by [`replay_text`] or [`explore_text`], whose
+//!   contracts speak of nothing else. [`Printed`] is what is written then, and the status; a
+//!   [`Fault`] is why there is no answer, with the line that tells so, and its status.
+//! - [`serve`] reads a text, answers and writes; [`exit_status`] is the status that the program ends
+//!   with then; [`serve_file`] does all that with a file.
 //! - A [`CommandFault`] is why a command printed nothing. Unlike a [`Fault`] it may name the file
 //!   or the stream that failed. [`read_file`] reads the text of a file for such a command, and
 //!   [`write_printed`] writes what the command prints.
-//! - [`ProgressGate`] is the gate of a search: where it is asked to, it tells how far the search
-//!   is.
+//! - A [`Host`] is what a search needs of the system. [`ProgressGate`] is the gate of a search: where
+//!   it is asked to, it tells how far the search is.
 #![tactic(auto)]
 
 mod answer;
 mod exploration;
 mod fault;
+mod host;
 mod limits;
 mod progress;
 mod request;
 mod serving;
 
-pub use answer::{
-    Answer, Printed, explore_and_trace, explore_text, replay_status, replay_text, verdict_status,
-};
+pub use answer::{Printed, answer_to, explore_text, replay_status, replay_text, verdict_status};
 pub use exploration::{DEFAULT_BOUND, Exploration, GuestRequest};
 pub use fault::{CommandFault, Fault, REFUSED};
+pub use host::Host;
 pub use limits::{DEFAULT_LIMIT, Limits};
 pub use progress::ProgressGate;
 pub use request::{

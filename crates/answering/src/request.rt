@@ -7,7 +7,7 @@ use crate::exploration::{Exploration, GuestRequest};
 use crate::limits::Limits;
 use report::Search;
 
-/// What the command words ask for.
+/// What the command words ask for. Files go by the names that the user gave.
 #[derive(Debug, Drop)]
 pub enum Request {
     /// To replay or search the guest program in this file.
@@ -33,22 +33,20 @@ impl Request {
     /// given where its text is refused. `None` for the commands that give no such hint: `check`,
     /// `suite` and `verify`.
     pub fn file_to_check(&self) -> Option<&str> {
-        let file = match self {
-            Request::Guest { file, .. } => file,
-            Request::Explain(request, _) => &request.file,
-            Request::Prefixes(request) => &request.file,
-            Request::Under(request) => &request.file,
-            Request::Join(request) => &request.file,
-            Request::Suite(_) | Request::Verify(_) | Request::Check(_) => return None,
-        };
-        Some(file.as_str())
+        match self {
+            Request::Guest { file, .. }
+            | Request::Explain(ExplainRequest { file, .. }, _)
+            | Request::Prefixes(PrefixesRequest { file, .. })
+            | Request::Under(UnderRequest { file, .. })
+            | Request::Join(JoinRequest { file, .. }) => Some(file.as_str()),
+            Request::Suite(_) | Request::Verify(_) | Request::Check(_) => None,
+        }
     }
 }
 
 /// To list prefixes of the schedules of the guest program in a file.
 #[derive(Debug, Drop)]
 pub struct PrefixesRequest {
-    /// The guest program's file, by the name that the user gave.
     pub file: String,
     /// How many prefixes are listed at least, where the program has as many of one length.
     pub at_least: u32,
@@ -59,7 +57,6 @@ pub struct PrefixesRequest {
 /// To search, of the schedules of the guest program in a file, those that begin with a prefix.
 #[derive(Debug, Drop)]
 pub struct UnderRequest {
-    /// The guest program's file, by the name that the user gave.
     pub file: String,
     /// The prefix, in schedule text.
     pub prefix: String,
@@ -71,9 +68,7 @@ pub struct UnderRequest {
 /// a file, to the report of a search.
 #[derive(Debug, Drop)]
 pub struct JoinRequest {
-    /// The guest program's file, by the name that the user gave.
     pub file: String,
-    /// The files of the parts, by the names that the user gave.
     pub parts: Vec<String>,
     pub search: Search,
     ghost is_search: { IsSearch search } by { IsSearch-prop search },
@@ -118,7 +113,6 @@ pub struct SuiteRequest {
 /// To say whether the guest program in a file is right.
 #[derive(Debug, Drop)]
 pub struct VerifyRequest {
-    /// The guest program's file, by the name that the user gave.
     pub file: String,
     pub limits: Limits,
 }
@@ -126,7 +120,6 @@ pub struct VerifyRequest {
 /// To explain a schedule of the guest program in a file, or the schedule that a search finds.
 #[derive(Debug, Drop)]
 pub struct ExplainRequest {
-    /// The guest program's file, by the name that the user gave.
     pub file: String,
     /// The schedule, in schedule text. Where there is none, a search finds one.
     pub schedule: Option<String>,

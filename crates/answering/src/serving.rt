@@ -1,31 +1,32 @@
 //! Reading of a guest's text or a file, and writing of what is answered to it.
 
 ghost use Rattle.std.specs.Prelude.{◌≡◌, IfSome, IfOk, IfErr, MatchResult};
-ghost use Rattle.answering.specs.Answer.{IsOfDevice};
-ghost use Rattle.answering.specs.Status.{fault_status};
+ghost use Rattle.answering.specs.Status.{fault_status, IsOfDevice};
 ghost use Rattle.answering.specs.Serve.{IsPartRead, IsServed, IsWritten};
 
-use crate::answer::{Answer, Printed};
+use crate::answer::{Printed, answer_to};
 use crate::exploration::GuestRequest;
 use crate::fault::{CommandFault, Fault};
+use crate::host::Host;
 use guest_syntax::TEXT_BYTES;
 use std::alloc::{Alloc, Global};
 use std::fs::Files;
-use std::io::{Eprint, Input, Read, Write};
-use std::sync::Wait;
-use std::thread::Threads;
+use std::io::{Input, Read, Write};
 use std::{fs, io};
 
 /// The name of standard output in a fault's line.
 pub const STANDARD_OUTPUT: &str = "standard output";
 
-// Reads the text of a guest program from `input`: at most one byte more than a program may have,
-// which is enough to see that a text is too long.
+/// How much is read of a guest program: one byte more than a program may have, which is enough to
+/// see that a text is too long.
+const MOST_READ: u64 = TEXT_BYTES as u64 + 1;
+
+// Reads the text of a guest program from `input`, up to `MOST_READ` bytes.
 fn read_text<R: Read>(alloc: Global, input: &mut R) -> io::Result<Vec<u8>>
     ensures { IfOk result (λ text. IfSome (R.remaining input.old) (IsPartRead text.items)) }
 {
     let mut text = Vec::new(alloc);
-    input.take(TEXT_BYTES as u64 + 1).read_to_end(&mut text)?;
+    input.take(MOST_READ).read_to_end(&mut text)?;
     Ok(text)
 }
 
@@ -45,32 +46,32 @@ pub fn write_out<W: Write>(out: &mut W, output: &[u8]) -> io::Result<()>
     out.flush()
 }
 
-/// Does what `request` asks of the guest program whose text `input` gives. What the answer has for
-/// standard output is written to `out`, a fault's line to `err`. Answers the status, also where
-/// `err` can't be written.
+/// Does what `request` asks of the guest program whose text `input` gives. What is printed is
+/// written to `out`, the line of what is wrong with the request or the text to `err`. Answers the
+/// status, also where `err` can't be written.
 ///
 /// # Errors
 ///
 /// `File` where input can't be read or output can't be written, `Memory` where memory runs out.
-pub fn serve<H, R: Read, W: Write, E: Write>(
+pub fn serve<H: Host, R: Read, W: Write, E: Write>(
     rt: &H,
     request: &GuestRequest,
     input: &mut R,
     out: &mut W,
     err: &mut E,
 ) -> Result<u8, Fault>
-where
-    H: Threads + Wait + Sync + Eprint + Alloc<A = Global>,
     ensures served { IfOk result (λ status. IfSome (R.remaining input.old) (λ text.
         IsServed request.now text (W.contents out.old) (W.contents out.new) status)) }
     ensures fault { IfErr result IsOfDevice }
 {
-    let alloc = rt.alloc();
-    let text = read_text(alloc, input)?;
-    let answer = Answer::of_request(rt, alloc, request, Ok(text));
-    write_out(out, answer.output())?;
-    let _ = answer.write_error(err);
-    Ok(answer.status())
+    let text = read_text(rt.alloc(), input)?;
+    match answer_to(rt, request, text.as_slice()) {
+        Ok(printed) => {
+            write_out(out, printed.output.as_slice())?;
+            Ok(printed.status)
+        }
+        Err(fault) => Ok(fault.report(err)),
+    }
 }
 
 /// The status that the program ends with: the one that [`serve`] answered, or that of a fault,
@@ -93,16 +94,13 @@ pub fn is_standard_input(file: &str) -> bool {
 /// Does what `request` asks of the guest program in a file, or on standard input where `file` is
 /// `-`: writes what is printed to `out`, a fault's line to `err`. Answers the status that the
 /// program ends with.
-pub fn serve_file<H, W: Write, E: Write>(
+pub fn serve_file<H: Host + Files + Input, W: Write, E: Write>(
     rt: &H,
     file: &str,
     request: &GuestRequest,
     out: &mut W,
     err: &mut E,
-) -> u8
-where
-    H: Threads + Wait + Sync + Eprint + Files + Input + Alloc<A = Global>,
-{
+) -> u8 {
     let served = if is_standard_input(file) {
         serve(rt, request, &mut rt.reader(), out, err)
     } else {
@@ -120,11 +118,8 @@ where
 /// # Errors
 ///
 /// The error of the file or of standard input, where it can't be read.
-pub fn read_file<H>(rt: &H, file: &str) -> io::Result<Vec<u8>>
-where
-    H: Files + Input + Alloc<A = Global>,
-{
-    read_bytes(rt, file, TEXT_BYTES as u64 + 1)
+pub fn read_file<H: Files + Input + Alloc<A = Global>>(rt: &H, file: &str) -> io::Result<Vec<u8>> {
+    read_bytes(rt, file, MOST_READ)
 }
 
 /// The first bytes of a file, or of standard input where `file` is `-`, at most `most` of them.

@@ -7,8 +7,7 @@ use Rattle.report.specs.Promises.{IsReport}
 use Rattle.report.specs.ReportText.{report_text}
 use Rattle.parts.specs.declared.part.Part.{Part}
 use Rattle.joining.specs.declared.error.JoinError.{JoinError}
-use Rattle.joining.specs.declared.error.JoinError.TheVariants.{OutOfMemory}
-use Rattle.joining.specs.ErrorTexts.{join_error_text, needs_work}
+use Rattle.joining.specs.ErrorTexts.{needs_work}
 use Rattle.joining.specs.Parts.{AreHonest, options_of}
 use Rattle.answering.specs.declared.answer.Printed.{Printed}
 use Rattle.answering.specs.Status.{verdict_status}
@@ -22,20 +21,6 @@ pub record IsJoined (p : Program) (search : Search) (parts : List Part) (printed
   pub output : printed.output.items ≡ report_text report ++ codes "\n"
   pub status : printed.status ≡ verdict_status report.verdict
 
--- how the line of an error begins
-abbrev pub error_begin : JoinError → List ℕ
-error_begin OutOfMemory = codes "ctxbound: "
-error_begin e = codes "ctxbound: parts: "
-
--- the line of an error
-abbrev pub error_line : JoinError → List ℕ
-error_line e = error_begin e ++ join_error_text e ++ codes "\n"
-
--- the status of an error where more parts would not help
-abbrev pub refusal_status : JoinError → ℕ
-refusal_status OutOfMemory = 4
-refusal_status e = 2
-
 -- the status of an error: 3 where more parts would help
 abbrev pub error_status : JoinError → ℕ
-error_status e = if needs_work e then 3 else refusal_status e
+error_status e = if needs_work e then 3 else 2

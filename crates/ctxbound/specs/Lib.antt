@@ -1,5 +1,3 @@
-pub mod Checks
 pub mod Joins
 pub mod Prefixes
-pub mod Status
 pub mod Under

@@ -7,6 +7,8 @@ use Rattle.items.specs.declared.limits.TheConstants.{BOUND}
 use Rattle.items.specs.declared.mode.Mode.{Mode}
 use Rattle.items.specs.declared.mode.Mode.TheVariants.{Bounded, Reduced}
 use Rattle.items.specs.Items.{ItemView}
+use Rattle.answering.specs.declared.answer.Printed.{Printed}
+use Rattle.answering.specs.declared.request.PrefixesRequest.{PrefixesRequest}
 use Rattle.cover.specs.Prefixes.{IsListOf, prefix_line}
 
 -- the mode whose prefixes are listed; a prefix may have more preemptions than the bound
@@ -15,11 +17,12 @@ listing_mode true = Reduced
 listing_mode false = Bounded BOUND
 
 -- a line for each prefix of the program that the text spells, of the least length at which there
--- are `at_least`, or more
-pub record IsListingOf (text : List ℕ) (is_pruned : Bool) (at_least : ℕ) (output : List ℕ) :
+-- are as many as asked for, or more
+pub record IsListingOf (text : List ℕ) (request : PrefixesRequest) (printed : Printed) :
     Type 0 where
   pub program : Program
   pub of : IsProgramOf text program
   pub items : List ItemView
-  pub all : IsListOf (listing_mode is_pruned) program at_least items
-  pub lines : output ≡ flat_map prefix_line items
+  pub all : IsListOf (listing_mode request.is_pruned) program request.at_least items
+  pub lines : printed.output.items ≡ flat_map prefix_line items
+  pub status : printed.status ≡ 0

@@ -1,12 +1,10 @@
 -- What is printed of a search under a prefix of the schedules of a program.
 use Rattle.std.specs.Prelude.{◌≡◌, ◌⊎◌, ◌-◌, ℕ, List, [], ◌∷◌, ◌++◌, length, slice_get}
-use Rattle.std.specs.Prelude.{true, false, Option, Some, None, codes}
+use Rattle.std.specs.Prelude.{true, false, Option, Some, None, codes, string_bytes}
 use Rattle.std.specs.Option.{option_map_or}
 use Rattle.std.specs.List.{flat_map}
 use Rattle.guest_code.specs.Program.{Program}
-use Rattle.replay.specs.declared.error.ReplayError.{ReplayError}
-use Rattle.replay.specs.Run.{ReplayErrorMeans}
-use Rattle.replay.specs.Spelling as spelling
+use Rattle.replay.specs.Spelling.{Spells}
 use Rattle.summary.specs.Summaries.{nothing}
 use Rattle.items.specs.declared.mode.Mode.{Mode}
 use Rattle.items.specs.Items.{ItemView}
@@ -21,9 +19,7 @@ use Rattle.runner.specs.Levels.{AreLevels}
 use Rattle.parts.specs.declared.guest.GuestDigest.{GuestDigest}
 use Rattle.parts.specs.PartText.{guest_of, part_text}
 use Rattle.answering.specs.declared.answer.Printed.{Printed}
-use Rattle.answering.specs.declared.fault.Fault.{Fault}
-use Rattle.answering.specs.declared.fault.Fault.TheVariants.{Memory}
-use Rattle.answering.specs.Answer.{of_replay}
+use Rattle.answering.specs.declared.request.UnderRequest.{UnderRequest}
 use Rattle.ctxbound.specs.Prefixes.{listing_mode}
 
 -- the mode of the prefixes of a search; the bound makes no difference
@@ -42,11 +38,6 @@ AreLevelsUnder p o prefix levels =
     ((i : ItemView) × IsUnder (prefix_mode o.search) p prefix i
     × AreLevels false o.search o.limit i levels)
     ⊎ (HasNoneUnder (prefix_mode o.search) p prefix × (levels ≡ empty_level ∷ []))
-
--- memory ran out, or a step of the prefix can't be taken
-abbrev pub IsNoItem : Program → List ℕ → Fault → Type 0
-IsNoItem p prefix fault =
-    (fault ≡ Memory) ⊎ ((e : ReplayError) × ReplayErrorMeans p prefix e × (fault ≡ of_replay e))
 
 -- the line of a level
 abbrev pub level_line : GuestDigest → List ℕ → Level → List ℕ
@@ -68,12 +59,12 @@ last_status levels = option_map_or level_status (slice_get levels (length levels
 
 -- a line for each level of what is under the prefix of the program that the text spells, and the
 -- status
-pub record IsSearchUnder (text prefix : List ℕ) (o : Options) (printed : Printed) : Type 0 where
+pub record IsSearchUnder (text : List ℕ) (request : UnderRequest) (printed : Printed) : Type 0 where
   pub program : Program
   pub of : IsProgramOf text program
   pub steps : List ℕ
-  pub spelt : spelling.Spells prefix steps
+  pub spelt : Spells (string_bytes request.prefix) steps
   pub levels : List Level
-  pub found : AreLevelsUnder program o steps levels
+  pub found : AreLevelsUnder program request.search.options steps levels
   pub lines : printed.output.items ≡ flat_map (level_line (guest_of text) steps) levels
   pub status : printed.status ≡ last_status levels

@@ -1,13 +1,11 @@
 //! The command `check`.
 
-ghost use Rattle.std.specs.Prelude.{◌≡◌, IfOk};
-ghost use Rattle.ctxbound.specs.Status.{checked_status};
-ghost use Rattle.ctxbound.specs.Checks.{IsCheckOf};
-
 use crate::diagnostics::diagnostics_text;
 use crate::files::{GuestFile, guest_files};
 use advice::{Checked, advice_text, check};
-use answering::{CheckForm, CheckRequest, CommandFault, Fault, Printed, read_file, write_printed};
+use answering::{
+    CheckForm, CheckRequest, CommandFault, Fault, Printed, REFUSED, read_file, write_printed,
+};
 use std::alloc::{Alloc, AllocError, Global};
 use std::fs;
 use std::fs::Files;
@@ -16,15 +14,12 @@ use std::io::{Input, Write};
 /// Checks each file that a request names, and the guest programs in each folder, and tells what is
 /// wrong or odd: lines for people on `err`, other forms on `out`. Faults go to `err`, as where a
 /// file can't be read. Answers the greatest of the files' statuses.
-pub fn serve_check<H, W: Write, E: Write>(
+pub fn serve_check<H: Files + Input + Alloc<A = Global> + Clone + Drop, W: Write, E: Write>(
     rt: &H,
     request: &CheckRequest,
     out: &mut W,
     err: &mut E,
-) -> u8
-where
-    H: Files + Input + Alloc<A = Global> + Clone + Drop,
-{
+) -> u8 {
     let mut worst = 0;
     for name in &request.files {
         let files = match guest_files(rt, name.as_str()) {
@@ -48,14 +43,11 @@ where
 
 // What a check prints of the text of a file, and the status; or that the file can't be read or
 // memory runs out.
-fn check_file<'a, H>(
+fn check_file<'a, H: Files + Input + Alloc<A = Global>>(
     rt: &H,
     file: &'a GuestFile,
     request: &CheckRequest,
-) -> Result<Printed, CommandFault<'a>>
-where
-    H: Files + Input + Alloc<A = Global>,
-{
+) -> Result<Printed, CommandFault<'a>> {
     let name = file.name.as_str();
     let text = file
         .read(rt)
@@ -75,57 +67,32 @@ fn write_lines<E: Write>(err: &mut E, file: &GuestFile, several: bool, printed: 
     printed.status
 }
 
-/// Checks the text of a file of the name `file`, and answers what is printed, and the status. Fails
-/// where memory runs out.
-pub fn check_text(
+// Checks the text of a file of the name `file`, and answers what is printed, and the status: 2 where
+// the text is refused, 1 where it has a warning and the check is strict, else 0.
+fn check_text(
     alloc: Global,
     text: &[u8],
     file: &str,
     request: &CheckRequest,
-) -> Result<Printed, AllocError>
-    ensures { IfOk result (IsCheckOf text.now request.now.strict) }
-{
+) -> Result<Printed, AllocError> {
     let checked = check(alloc, text, request.depth)?;
-    Ok(Printed {
-        output: check_output(alloc, text, file, &checked, request.form)?,
-        status: checked_status(&checked, request.strict),
-    })
-}
-
-// What is printed, in this form, of a text that was checked; `file` is the name of its file.
-fn check_output(
-    alloc: Global,
-    text: &[u8],
-    file: &str,
-    checked: &Checked,
-    form: CheckForm,
-) -> Result<Vec<u8>, AllocError> {
-    match form {
-        CheckForm::Lines => advice_text(alloc, text, checked),
-        CheckForm::Short => diagnostics_text(alloc, text, file, checked, false),
-        CheckForm::Json => diagnostics_text(alloc, text, file, checked, true),
-    }
-}
-
-/// The status of a text that was checked: 2 where the text is refused, 1 where it has a warning and
-/// the check is strict, else 0.
-pub fn checked_status(checked: &Checked, strict: bool) -> u8
-    ensures { result ≡ checked_status strict checked.now }
-{
-    match checked {
-        Checked::Refused(_) => 2,
-        Checked::Sound(_) if strict && checked.is_warned() => 1,
+    let status = match &checked {
+        Checked::Refused(_) => REFUSED,
+        Checked::Sound(_) if request.strict && checked.is_warned() => 1,
         Checked::Sound(_) => 0,
-    }
+    };
+    let output = match request.form {
+        CheckForm::Lines => advice_text(alloc, text, &checked),
+        CheckForm::Short => diagnostics_text(alloc, text, file, &checked, false),
+        CheckForm::Json => diagnostics_text(alloc, text, file, &checked, true),
+    }?;
+    Ok(Printed { output, status })
 }
 
 /// Whether `file` is the name of a plain file whose text is refused; false where it can't be read,
 /// or memory runs out. Standard input and pipes aren't read: they may have been read before, and
 /// can't be read twice.
-pub fn is_refused<H>(rt: &H, file: &str) -> bool
-where
-    H: Files + Input + Alloc<A = Global>,
-{
+pub fn is_refused<H: Files + Input + Alloc<A = Global>>(rt: &H, file: &str) -> bool {
     if !fs::metadata(rt, file).is_ok_and(|metadata| metadata.is_file()) {
         return false;
     }

@@ -4,35 +4,29 @@ use crate::checks::{is_refused, serve_check};
 use crate::files::guest_text;
 use crate::forms::{Html, Json};
 use crate::joins::join_files;
-use crate::prefixes::prefixes_text;
+use crate::prefixes::list_prefixes;
 use crate::suites::serve_suite;
-use crate::under::search_under_prefix;
+use crate::under::search_under;
 use crate::verified::verify_guest;
 use answering::{
-    CommandFault, ExplainForm, ExplainRequest, JoinRequest, PrefixesRequest, Printed, REFUSED,
-    Request, UnderRequest, VerifyRequest, serve_file, write_printed,
+    CommandFault, ExplainForm, ExplainRequest, Fault, Host, JoinRequest, PrefixesRequest, Printed,
+    REFUSED, Request, UnderRequest, VerifyRequest, answer_to, serve_file, write_printed,
 };
-use explained::{Text, serve_explain};
-use std::alloc::{Alloc, Global};
+use explained::{Text, explain_text};
 use std::fs::Files;
-use std::io::{Eprint, Input, Write};
-use std::sync::Wait;
-use std::thread::Threads;
+use std::io::{Input, Write};
 use words::parse_request;
 
 /// Does what the words of a command line ask for: the answer goes to `out`, the lines of faults to
 /// `err`. If `is_seen`, a person reads `err`: where a guest's text is refused, it is also told
 /// which command says more. Answers the status that the program ends with.
-pub fn serve_command<H, W: Write, E: Write>(
+pub fn serve_command<H: Host + Files + Input + Clone + Drop, W: Write, E: Write>(
     rt: &H,
     words: &[String],
     is_seen: bool,
     out: &mut W,
     err: &mut E,
-) -> u8
-where
-    H: Threads + Wait + Sync + Eprint + Files + Input + Alloc<A = Global> + Clone + Drop,
-{
+) -> u8 {
     let request = match parse_request(rt.alloc(), words) {
         Ok(request) => request,
         Err(fault) => return fault.report(err),
@@ -50,90 +44,62 @@ where
 
 // Does what a request asks for, with the answer to `out` and the lines of faults to `err`. Answers
 // the status that the program ends with.
-fn serve_request<H, W: Write, E: Write>(rt: &H, request: &Request, out: &mut W, err: &mut E) -> u8
-where
-    H: Threads + Wait + Sync + Eprint + Files + Input + Alloc<A = Global> + Clone + Drop,
-{
+fn serve_request<H: Host + Files + Input + Clone + Drop, W: Write, E: Write>(
+    rt: &H,
+    request: &Request,
+    out: &mut W,
+    err: &mut E,
+) -> u8 {
     match request {
         Request::Guest { file, request } => serve_file(rt, file.as_str(), request, out, err),
-        Request::Explain(request, form) => explain_in_form(rt, request, *form, out, err),
         Request::Check(request) => serve_check(rt, request, out, err),
         Request::Suite(request) => serve_suite(rt, request, out, err),
-        Request::Verify(request) => {
-            let printed = verify_file(rt, request, out);
+        Request::Explain(ExplainRequest { file, .. }, _)
+        | Request::Verify(VerifyRequest { file, .. })
+        | Request::Prefixes(PrefixesRequest { file, .. })
+        | Request::Under(UnderRequest { file, .. })
+        | Request::Join(JoinRequest { file, .. }) => {
+            let printed = match guest_text(rt, file.as_str()) {
+                Ok(text) => answer_for(rt, request, text.as_slice(), out),
+                Err(fault) => Err(fault),
+            };
             write_printed(printed, out, err)
         }
-        Request::Prefixes(request) => write_printed(list_prefixes(rt, request), out, err),
-        Request::Under(request) => write_printed(search_under(rt, request), out, err),
-        Request::Join(request) => write_printed(join_parts(rt, request), out, err),
     }
 }
 
-// Verifies that no schedule of the guest program in a file is bad, and answers what is printed of
-// it, or why nothing is. A line on each search is written to `out` as the search ends.
-fn verify_file<'a, H, W: Write>(
+// What is printed where a request on one guest program is done on this text, or why nothing is. To
+// `verify` a line on each search is written to `out` as the search ends.
+fn answer_for<'a, H: Host + Files + Input, W: Write>(
     rt: &H,
-    request: &'a VerifyRequest,
+    request: &'a Request,
+    text: &[u8],
     out: &mut W,
-) -> Result<Printed, CommandFault<'a>>
-where
-    H: Threads + Wait + Sync + Files + Input + Alloc<A = Global>,
-{
-    let text = guest_text(rt, request.file.as_str())?;
-    Ok(verify_guest(rt, text.as_slice(), request, out)?)
+) -> Result<Printed, CommandFault<'a>> {
+    let printed = match request {
+        Request::Guest { request, .. } => answer_to(rt, request, text),
+        Request::Explain(request, form) => explain_in_form(rt, text, request, *form),
+        Request::Verify(request) => verify_guest(rt, text, request, out),
+        Request::Prefixes(request) => list_prefixes(rt.alloc(), text, request),
+        Request::Under(request) => search_under(rt, text, request),
+        Request::Join(request) => return join_files(rt, text, request),
+        Request::Check(_) | Request::Suite(_) => Err(Fault::File),
+    };
+    Ok(printed?)
 }
 
-// Lists prefixes of the schedules of the guest program in a file, a line each: those of the least
-// length that has `at_least` or more, or all complete schedules if none has. If `is_pruned`, only
-// those that a search with sleep sets enters. Answers what is printed, or why nothing is.
-fn list_prefixes<'a, H>(rt: &H, request: &'a PrefixesRequest) -> Result<Printed, CommandFault<'a>>
-where
-    H: Files + Input + Alloc<A = Global>,
-{
-    let text = guest_text(rt, request.file.as_str())?;
-    let (is_pruned, at_least) = (request.is_pruned, request.at_least);
-    let output = prefixes_text(rt.alloc(), text.as_slice(), is_pruned, at_least)?;
-    Ok(Printed { output, status: 0 })
-}
-
-// Searches under a prefix of the schedules of the guest program in a file, and answers what is
-// printed, a part for each bound, or why nothing is.
-fn search_under<'a, H>(rt: &H, request: &'a UnderRequest) -> Result<Printed, CommandFault<'a>>
-where
-    H: Threads + Wait + Sync + Eprint + Files + Input + Alloc<A = Global>,
-{
-    let text = guest_text(rt, request.file.as_str())?;
-    let prefix = request.prefix.as_bytes();
-    Ok(search_under_prefix(rt, text.as_slice(), prefix, request.search)?)
-}
-
-// Joins the parts, in other files, of a search of the guest program in a file to a report, and
-// answers what is printed of it, or why nothing is.
-fn join_parts<'a, H>(rt: &H, request: &'a JoinRequest) -> Result<Printed, CommandFault<'a>>
-where
-    H: Files + Input + Alloc<A = Global>,
-{
-    let text = guest_text(rt, request.file.as_str())?;
-    join_files(rt, text.as_slice(), request)
-}
-
-// Explains a schedule of the guest program in a file in this form: writes the explanation to `out`,
-// or the line of a fault to `err`, and answers the status.
-fn explain_in_form<H, W: Write, E: Write>(
+// Explains a schedule of the guest program of this text in this form.
+fn explain_in_form<H: Host>(
     rt: &H,
+    text: &[u8],
     request: &ExplainRequest,
     form: ExplainForm,
-    out: &mut W,
-    err: &mut E,
-) -> u8
-where
-    H: Threads + Wait + Sync + Eprint + Files + Input + Alloc<A = Global>,
-{
+) -> Result<Printed, Fault> {
     match form {
         ExplainForm::Text { width, steps } => {
-            serve_explain(rt, request, &Text { width, steps }, out, err)
+            explain_text(rt, text, request, &Text { width, steps })
         }
-        ExplainForm::Json => serve_explain(rt, request, &Json, out, err),
-        ExplainForm::Html => serve_explain(rt, request, &Html, out, err),
+        ExplainForm::Json => explain_text(rt, text, request, &Json),
+        ExplainForm::Html => explain_text(rt, text, request, &Html),
     }
 }

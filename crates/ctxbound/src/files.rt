@@ -27,10 +27,7 @@ impl GuestFile {
     /// # Errors
     ///
     /// Why the name stands for no file, or why the file can't be read.
-    pub fn read<H>(&self, rt: &H) -> io::Result<Vec<u8>>
-    where
-        H: Files + Input + Alloc<A = Global>,
-    {
+    pub fn read<H: Files + Input + Alloc<A = Global>>(&self, rt: &H) -> io::Result<Vec<u8>> {
         match self.error {
             Some(error) => Err(error),
             None => read_file(rt, self.name.as_str()),

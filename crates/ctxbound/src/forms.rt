@@ -1,11 +1,11 @@
 //! The formats of an explanation beside text in columns: JSON and an HTML page.
 
-use explain::Source;
+use explain::{Explanation, Source};
 use explain_json::{explanation_json, no_schedule_json};
 use explain_page::{explanation_html, no_schedule_html};
 use explain_text::{Layout, why_text};
 use explained::{Explained, Output, Render, has_fewest_preemptions, no_schedule_text};
-use runner::report_value;
+use runner::{Report, report_value};
 use std::alloc::Global;
 
 /// The format of explanations as JSON.
@@ -25,40 +25,52 @@ impl Render for Json {
     fn render(&self, alloc: Global, answer: &Explained, source: &Source<'_>, file: &str) -> Output {
         match answer {
             Explained::Asked(explanation) => explanation_json(alloc, explanation, source, None),
-            Explained::Found(report, told) => {
+            Explained::Found(report, explanation) => {
                 let ends = report_value(alloc, report)?;
-                match told {
-                    Some(explanation) => explanation_json(alloc, explanation, source, Some(ends)),
-                    None => no_schedule_json(alloc, file, ends),
-                }
+                explanation_json(alloc, explanation, source, Some(ends))
+            }
+            Explained::NoneFound(report) => {
+                no_schedule_json(alloc, file, report_value(alloc, report)?)
             }
         }
     }
 }
 
 impl Render for Html {
-    // The page of the explanation, with its text, where steps that matter less share rows (`steps`
-    // is 0), and with the report of the search where a search found the schedule; or a page with
-    // the sentence that a search found no bad schedule.
+    // The page of the explanation, with the report of the search where a search found the schedule;
+    // or a page with the sentence that a search found no bad schedule.
     fn render(&self, alloc: Global, answer: &Explained, source: &Source<'_>, file: &str) -> Output {
-        let (explanation, is_fewest, ends) = match answer {
-            Explained::Asked(explanation) => (explanation, false, None),
-            Explained::Found(report, Some(explanation)) => {
-                let ends = report_value(alloc, report)?;
-                (explanation, has_fewest_preemptions(report), Some(ends))
+        match answer {
+            Explained::Asked(explanation) => page(alloc, explanation, source, None),
+            Explained::Found(report, explanation) => {
+                page(alloc, explanation, source, Some(report))
             }
-            Explained::Found(report, None) => {
+            Explained::NoneFound(report) => {
                 let sentence = no_schedule_text(alloc, file, report)?;
-                return no_schedule_html(alloc, file, sentence.as_str());
+                no_schedule_html(alloc, file, sentence.as_str())
             }
-        };
-        let layout = Layout {
-            width: PAGE_WIDTH,
-            steps: 0,
-            is_fewest,
-        };
-        let why = why_text(alloc, explanation, source, layout)?;
-        let why = String::from_utf8_lossy(alloc, why.as_slice())?;
-        explanation_html(alloc, explanation, source, ends, why.as_str())
+        }
     }
+}
+
+// The page of an explanation, with its text, where steps that matter less share rows (`steps` is 0),
+// and with the report of the search that found the schedule, if one did.
+fn page(
+    alloc: Global,
+    explanation: &Explanation,
+    source: &Source<'_>,
+    report: Option<&Report>,
+) -> Output {
+    let layout = Layout {
+        width: PAGE_WIDTH,
+        steps: 0,
+        is_fewest: report.is_some_and(has_fewest_preemptions),
+    };
+    let why = why_text(alloc, explanation, source, layout)?;
+    let why = String::from_utf8_lossy(alloc, why.as_slice())?;
+    let ends = match report {
+        Some(report) => Some(report_value(alloc, report)?),
+        None => None,
+    };
+    explanation_html(alloc, explanation, source, ends, why.as_str())
 }

@@ -3,7 +3,7 @@
 ghost use Rattle.std.specs.Prelude.{◌≡◌, IfOk, IfErr};
 ghost use Rattle.std.specs.Arc.{arc_value};
 ghost use Rattle.joining.specs.Parts.{JoinErrorMeans};
-ghost use Rattle.ctxbound.specs.Joins.{IsJoined, error_line, error_status};
+ghost use Rattle.ctxbound.specs.Joins.{IsJoined, error_status};
 
 use answering::{CommandFault, Fault, JoinRequest, Printed, REFUSED, read_bytes};
 use guest_code::program::Program;
@@ -11,7 +11,7 @@ use joining::{JoinError, join};
 use parts::{GuestDigest, Part, PartError, parts_from};
 use replay::schedule_text;
 use report::Search;
-use std::alloc::{Alloc, AllocError, Global};
+use std::alloc::{Alloc, Global};
 use std::fs::Files;
 use std::io::Input;
 use std::sync::Arc;
@@ -24,14 +24,11 @@ use verify::program_of;
 ///
 /// What is wrong first: with the text, with the program that it spells, with a file of parts, or
 /// with the parts, as where one is missing. No report is printed then.
-pub fn join_files<'a, H>(
+pub fn join_files<'a, H: Files + Input + Alloc<A = Global>>(
     rt: &H,
     text: &[u8],
     request: &'a JoinRequest,
-) -> Result<Printed, CommandFault<'a>>
-where
-    H: Files + Input + Alloc<A = Global>,
-{
+) -> Result<Printed, CommandFault<'a>> {
     let alloc = rt.alloc();
     let program = program_of(alloc, text)?;
     let guest = GuestDigest::of_text(text);
@@ -41,21 +38,24 @@ where
     }
     match printed_report(alloc, &program, request.search, parts.as_slice()) {
         Ok(printed) => Ok(printed),
-        Err(error) => Err(CommandFault::Line(error_line(alloc, &error)?, error_status(&error))),
+        Err(JoinError::OutOfMemory) => Err(Fault::Memory.into()),
+        Err(error) => {
+            let text = error.text(alloc)?;
+            let text = String::from_utf8_lossy(alloc, text.as_slice())?;
+            let line = format!(in alloc; "ctxbound: parts: {text}\n")?;
+            Err(CommandFault::Line(line.into_bytes(), error_status(&error)))
+        }
     }
 }
 
 // Reads the parts in a file and pushes them to `parts`. An error where the file can't be read, a
 // line spells no part, a part is of another guest, or memory runs out; then none is pushed.
-fn push_parts<'a, H>(
+fn push_parts<'a, H: Files + Input + Alloc<A = Global>>(
     rt: &H,
     parts: &mut Vec<Part>,
     guest: GuestDigest,
     file: &'a str,
-) -> Result<(), CommandFault<'a>>
-where
-    H: Files + Input + Alloc<A = Global>,
-{
+) -> Result<(), CommandFault<'a>> {
     let alloc = rt.alloc();
     let text = read_bytes(rt, file, u64::MAX).map_err(|error| CommandFault::Device(file, error))?;
     let line = match parts_from(alloc, text.as_slice()) {
@@ -73,32 +73,11 @@ where
     Err(CommandFault::Line(line.into_bytes(), REFUSED))
 }
 
-// The line for the user that says why parts don't join to a report.
-fn error_line(alloc: Global, error: &JoinError) -> Result<Vec<u8>, AllocError>
-    ensures { IfOk result (λ line. line.items ≡ error_line error.now) }
-{
-    let before: &[u8] = match error {
-        JoinError::OutOfMemory => b"ctxbound: ",
-        _ => b"ctxbound: parts: ",
-    };
-    let mut line = Vec::from_slice(alloc, before)?;
-    line.extend_from_slice(error.text(alloc)?.as_slice())?;
-    line.extend_from_slice(b"\n")?;
-    Ok(line)
-}
-
-// The status where parts don't join to a report: 3 where more parts would help, 4 where memory runs
-// out, else 2.
+// The status where parts don't join to a report: 3 where more parts would help, else 2.
 fn error_status(error: &JoinError) -> u8
     ensures { result ≡ error_status error.now }
 {
-    if error.needs_more_parts() {
-        return 3;
-    }
-    match error {
-        JoinError::OutOfMemory => Fault::Memory.status(),
-        _ => REFUSED,
-    }
+    if error.needs_more_parts() { 3 } else { REFUSED }
 }
 
 // The report, as it is printed, that parts of a search of a program join to, and the status of its

@@ -1,14 +1,16 @@
 //! The commands `explore` and `unbounded` with `--under`: searches under a prefix.
 
-ghost use Rattle.std.specs.Prelude.{◌≡◌, IfOk, IfErr};
+ghost use Rattle.std.specs.Prelude.{◌≡◌, ℕ, List, Some, IfOk, IfErr, string_bytes};
 ghost use Rattle.std.specs.Arc.{arc_value};
 ghost use Rattle.std.specs.List.{flat_map};
 ghost use Rattle.answering.specs.Answer.{FaultMeans};
-ghost use Rattle.ctxbound.specs.Under.{prefix_mode, AreLevelsUnder, level_line, level_status};
-ghost use Rattle.ctxbound.specs.Under.{last_status, empty_level, IsNoItem, IsSearchUnder};
+ghost use Rattle.ctxbound.specs.Under.{prefix_mode, AreLevelsUnder, level_line, last_status};
+ghost use Rattle.ctxbound.specs.Under.{IsSearchUnder};
+ghost use Rattle.replay.specs.Spelling.{Spells};
+ghost use Rattle.report.specs.Texts.{IsProgramOf};
 
 use crate::prefixes::listing_mode;
-use answering::{Exploration, Fault, Printed, ProgressGate};
+use answering::{Exploration, Fault, Host, Printed, ProgressGate, UnderRequest};
 use cover::item_under;
 use guest_code::program::Program;
 use items::mode::Mode;
@@ -16,10 +18,8 @@ use parts::{GuestDigest, Part, part_line};
 use replay::schedule_from;
 use report::{Level, Options, Search};
 use runner::explore_under;
-use std::alloc::{Alloc, AllocError, Global};
-use std::io::Eprint;
-use std::sync::{Arc, Wait};
-use std::thread::Threads;
+use std::alloc::{AllocError, Global};
+use std::sync::Arc;
 use summary::Summary;
 use verify::program_of;
 
@@ -31,21 +31,14 @@ use verify::program_of;
 ///
 /// What is wrong first: with the text, with the program that it spells, with the prefix's text, or
 /// with a step of the prefix; `Memory` where memory runs out.
-pub fn search_under_prefix<H>(
-    rt: &H,
-    text: &[u8],
-    prefix: &[u8],
-    search: Exploration,
-) -> Result<Printed, Fault>
-where
-    H: Threads + Wait + Sync + Eprint + Alloc<A = Global>,
-    ensures printed { IfOk result (IsSearchUnder text.now prefix.now search.options) }
-    ensures fault { IfErr result (FaultMeans text.now prefix.now) }
+pub fn search_under<H: Host>(rt: &H, text: &[u8], request: &UnderRequest) -> Result<Printed, Fault>
+    ensures printed { IfOk result (IsSearchUnder text.now request.now) }
+    ensures fault { IfErr result (FaultMeans text.now (Some (string_bytes request.now.prefix))) }
 {
     let alloc = rt.alloc();
     let program = program_of(alloc, text)?;
-    let prefix = schedule_from(alloc, prefix)?;
-    let levels = levels_under(rt, program, prefix.as_slice(), search)?;
+    let prefix = schedule_from(alloc, request.prefix.as_bytes())?;
+    let levels = levels_under(rt, program, prefix.as_slice(), request.search)?;
     let status = last_status(levels.as_slice());
     let guest = GuestDigest::of_text(text);
     let output = level_lines(alloc, guest, prefix.as_slice(), levels)?;
@@ -55,22 +48,28 @@ where
 // Searches under a prefix: what was found, a level for each bound; or why the prefix doesn't run.
 // Where sleep sets leave no schedule under the prefix, nothing is searched, and there is one empty
 // level.
-fn levels_under<H>(
+fn levels_under<H: Host>(
     rt: &H,
     program: Arc<Program>,
     prefix: &[u8],
     search: Exploration,
 ) -> Result<Vec<Level>, Fault>
-where
-    H: Threads + Wait + Sync + Eprint + Alloc<A = Global>,
     ensures levels { IfOk result (λ v.
         AreLevelsUnder (arc_value program) search.options prefix.now v.items) }
-    ensures fault { IfErr result (IsNoItem (arc_value program) prefix.now) }
+    ensures fault { IfErr result (λ fault. (text schedule : List ℕ)
+        → IsProgramOf text (arc_value program) → Spells schedule prefix.now
+        → FaultMeans text (Some schedule) fault) }
 {
     let alloc = rt.alloc();
     let mode = prefix_mode(search.options.search);
     let Some(item) = item_under(alloc, program, mode, prefix)? else {
-        return Ok(vec![in alloc; empty_level(alloc)]?);
+        return Ok(vec![in alloc;
+            Level {
+                bound: None,
+                summary: Summary::empty(alloc),
+                cause: None
+            },
+        ]?);
     };
     let gate = ProgressGate::new(rt, search.progress);
     Ok(explore_under(rt, alloc, item, search.options, search.workers, &gate)?)
@@ -84,32 +83,14 @@ fn prefix_mode(search: Search) -> Mode
     listing_mode(matches!(search, Search::Unbounded))
 }
 
-// The level of a search without a bound, under a prefix under which sleep sets leave no schedule.
-fn empty_level(alloc: Global) -> Level
-    ensures { result ≡ empty_level }
-{
-    Level {
-        bound: None,
-        summary: Summary::empty(alloc),
-        cause: None,
-    }
-}
-
-// The status after a search under a prefix: that of the last of its levels, 0 where it has none.
+// The status after a search under a prefix: 3 where the last of its levels was cut short, 1 where that
+// has a bad schedule, else 0.
 fn last_status(levels: &[Level]) -> u8
     ensures { result ≡ last_status levels.now }
 {
-    match levels.last() {
-        Some(level) => level_status(level),
-        None => 0,
-    }
-}
-
-// The status of a level: 3 where the search was cut short at it, 1 where it has a bad schedule,
-// else 0.
-fn level_status(level: &Level) -> u8
-    ensures { result ≡ level_status level.now }
-{
+    let Some(level) = levels.last() else {
+        return 0;
+    };
     match (level.cause, level.summary.first_bad()) {
         (Some(_), _) => 3,
         (None, Some(_)) => 1,

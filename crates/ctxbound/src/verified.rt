@@ -1,19 +1,14 @@
 //! The command `verify`.
 
-ghost use Rattle.std.specs.Prelude.{◌≡◌};
-ghost use Rattle.ctxbound.specs.Status.{verified_status};
-
 use advice::{Checked, Diagnostic, check};
-use answering::{Fault, Printed, VerifyRequest};
+use answering::{Fault, Host, Printed, VerifyRequest};
 use guest_syntax::pieces::Piece;
 use hints::pieces::pieces;
 use replay::schedule_text;
 use semantics::view::Kind;
-use std::alloc::{Alloc, AllocError, Global};
+use std::alloc::{AllocError, Global};
 use std::fmt::Write;
 use std::io;
-use std::sync::Wait;
-use std::thread::Threads;
 use text_lines::Marks;
 use verify::{BadSchedule, Correctness, Preemptions, verify_text};
 
@@ -26,15 +21,12 @@ const HIGHER_LIMIT: &str = "A higher --limit says more.";
 /// # Errors
 ///
 /// What is wrong first with the text, or `Memory`.
-pub fn verify_guest<H, W: io::Write>(
+pub fn verify_guest<H: Host, W: io::Write>(
     rt: &H,
     text: &[u8],
     request: &VerifyRequest,
     out: &mut W,
-) -> Result<Printed, Fault>
-where
-    H: Threads + Wait + Sync + Alloc<A = Global>,
-{
+) -> Result<Printed, Fault> {
     let alloc = rt.alloc();
     let answer = verify_text(rt, text, request.limits, out)?;
     let file = request.file.as_str();
@@ -45,20 +37,8 @@ where
     };
     Ok(Printed {
         output: told.into_bytes(),
-        status: verified_status(&answer),
+        status: answer.status(),
     })
-}
-
-// The status of the answer whether a program is right: 0 where it is, 1 where a schedule is bad, 3
-// where the searches left open whether one is.
-fn verified_status(answer: &Correctness) -> u8
-    ensures { result ≡ verified_status answer.now }
-{
-    match answer {
-        Correctness::Right => 0,
-        Correctness::Bad { .. } => 1,
-        Correctness::Undecided { .. } => 3,
-    }
 }
 
 // The text of the answer that a program is right, with its caveats: a line for each warning of

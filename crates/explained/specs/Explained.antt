@@ -1,12 +1,12 @@
--- Which schedule of a program is explained.
+-- Which schedule of a program is explained, and the status that the program ends with.
 use Rattle.std.specs.Prelude.{◌≡◌, ℕ, List, false, Option, Some, None, Result, MatchResult}
-use Rattle.std.specs.Prelude.{String, string_bytes}
+use Rattle.std.specs.Prelude.{String, string_bytes, option_map}
 use Rattle.std.specs.declared.alloc.Global.{Global}
 use Rattle.guest_code.specs.Program.{Program}
+use Rattle.semantics.specs.declared.view.Kind.{Kind}
 use Rattle.explain.specs.declared.explanation.Explanation.{Explanation}
 use Rattle.explain.specs.Explains.{Explains}
-use Rattle.replay.specs.declared.error.ScheduleError.TheVariants as schedule
-use Rattle.replay.specs.Spelling.{Spells, ScheduleErrorMeans}
+use Rattle.replay.specs.Spelling.{Spells}
 use Rattle.report.specs.declared.options.Options.{Options}
 use Rattle.report.specs.declared.report.Report.{Report}
 use Rattle.report.specs.Promises.{IsReport}
@@ -15,11 +15,26 @@ use Rattle.report.specs.Texts.{IsProgramOf}
 use Rattle.answering.specs.declared.request.ExplainRequest.{ExplainRequest}
 use Rattle.answering.specs.declared.answer.Printed.{Printed}
 use Rattle.answering.specs.declared.fault.Fault.{Fault}
-use Rattle.answering.specs.declared.fault.Fault.TheVariants.{Schedule, Replay, Memory}
-use Rattle.answering.specs.Answer.{TextFaultMeans, FaultMeans}
+use Rattle.answering.specs.declared.fault.Fault.TheVariants.{Replay}
+use Rattle.answering.specs.Answer.{FaultMeans}
+use Rattle.answering.specs.Status.{replay_status, verdict_status}
 use Rattle.explained.specs.declared.explained.Explained.{Explained}
-use Rattle.explained.specs.declared.explained.Explained.TheVariants.{Asked, Found}
-use Rattle.explained.specs.Status.{told_status}
+use Rattle.explained.specs.declared.explained.Explained.TheVariants.{Asked, Found, NoneFound}
+
+-- the status after an explanation: that of a replay, which refuses a schedule that can't go on
+abbrev pub explained_status : Option ℕ → Option Kind → ℕ
+explained_status (Some thread) kind = 2
+explained_status None kind = replay_status kind
+
+-- the status after what is explained, or of the search where it found nothing to explain
+abbrev pub told_status : Explained → ℕ
+told_status (Asked told) = explained_status told.refused told.kind
+told_status (Found report told) = explained_status told.refused told.kind
+told_status (NoneFound report) = verdict_status report.verdict
+
+-- the bytes of the schedule's text, if one was given
+abbrev pub asked : Option (String Global) → Option (List ℕ)
+asked schedule = option_map string_bytes schedule
 
 -- the schedule that this text spells is explained
 pub record IsAsked (p : Program) (text : List ℕ) (told : Explanation) : Type 0 where
@@ -27,23 +42,19 @@ pub record IsAsked (p : Program) (text : List ℕ) (told : Explanation) : Type 0
   pub spelt : Spells text steps
   pub explains : Explains p steps told
 
--- a schedule is explained, if there is one
-abbrev pub IsNamed : Program → Option (List ℕ) → Option Explanation → Type 0
-IsNamed p None told = told ≡ None
-IsNamed p (Some w) None = ⊥
-IsNamed p (Some w) (Some told) = Explains p w told
-
--- this is the report of a search of the program, and the schedule that it names is explained
-pub record IsFound (p : Program) (o : Options) (r : Report) (told : Option Explanation)
-    : Type 0 where
-  pub report : IsReport false p o r
-  pub named : IsNamed p (named_schedule r) told
+-- the schedule that this report names is explained, if it names one
+abbrev pub IsOfReport : Program → Report → Explained → Type 0
+IsOfReport p report (Found r told) =
+    (r ≡ report) × ((w : List ℕ) × (named_schedule report ≡ Some w) × Explains p w told)
+IsOfReport p report (NoneFound r) = (r ≡ report) × (named_schedule report ≡ None)
+IsOfReport p report (Asked told) = ⊥
 
 -- the schedule that was asked for is explained, or where none was, the one that a search reports
 abbrev pub IsOf : Program → Options → Option (String Global) → Explained → Type 0
 IsOf p o (Some text) (Asked told) = IsAsked p (string_bytes text) told
-IsOf p o None (Found report told) = IsFound p o report told
-IsOf p o other explained = ⊥
+IsOf p o (Some text) other = ⊥
+IsOf p o None explained =
+    (report : Report) × IsReport false p o report × IsOfReport p report explained
 
 abbrev pub IsExplained : Program → ExplainRequest → Explained → Type 0
 IsExplained p request explained = IsOf p request.search.options request.schedule explained
@@ -58,26 +69,13 @@ pub record IsExplanationOf (text : List ℕ) (request : ExplainRequest) (a : Pri
   pub explains : IsExplained program request explained
   pub status : a.status ≡ told_status explained
 
--- the text of a schedule spells none, or memory ran out
-abbrev pub IsScheduleFault : List ℕ → Fault → Type 0
-IsScheduleFault text (Schedule schedule.OutOfMemory) = ⊥
-IsScheduleFault text (Schedule e) = ScheduleErrorMeans text e
-IsScheduleFault text Memory = Unit {0}
-IsScheduleFault text other = ⊥
-
--- what may be wrong with the schedule that was asked for; where none was, memory alone
-abbrev pub IsFaultOf : Option (String Global) → Fault → Type 0
-IsFaultOf None fault = fault ≡ Memory
-IsFaultOf (Some text) fault = IsScheduleFault (string_bytes text) fault
-
 -- why nothing is explained: what is wrong with the text, or with that of the schedule. A schedule that
 -- can't go on is explained
-abbrev pub ExplainFaultMeans : List ℕ → Option (String Global) → Fault → Type 0
+abbrev pub ExplainFaultMeans : List ℕ → Option (List ℕ) → Fault → Type 0
 ExplainFaultMeans text schedule (Replay e) = ⊥
-ExplainFaultMeans text None fault = TextFaultMeans text fault
-ExplainFaultMeans text (Some schedule) fault = FaultMeans text (string_bytes schedule) fault
+ExplainFaultMeans text schedule fault = FaultMeans text schedule fault
 
 -- what is answered to a request for this text
 abbrev pub ExplainMeans : List ℕ → ExplainRequest → Result Printed Fault → Type 0
-ExplainMeans text request result =
-    MatchResult result (IsExplanationOf text request) (ExplainFaultMeans text request.schedule)
+ExplainMeans text request result = MatchResult result
+    (IsExplanationOf text request) (ExplainFaultMeans text (asked request.schedule))

@@ -1,17 +1,13 @@
 //! Explanations of a schedule that is asked for, or that a search finds, in some format.
 
-ghost use Rattle.std.specs.Prelude.{◌≡◌, IfOk, IfErr};
+ghost use Rattle.std.specs.Prelude.{◌≡◌, List, ℕ, IfOk, IfErr};
 ghost use Rattle.std.specs.Arc.{arc_value};
-ghost use Rattle.report.specs.ReportText.{named_schedule};
-ghost use Rattle.answering.specs.declared.fault.Fault.TheVariants.{Memory};
-ghost use Rattle.explained.specs.Status.{explained_status, told_status};
-ghost use Rattle.explained.specs.Explained.{ExplainMeans, IsExplained, IsAsked, IsFound, IsNamed};
-ghost use Rattle.explained.specs.Explained.{IsFaultOf, IsScheduleFault};
+ghost use Rattle.guest_code.specs.SourceMap.{IsMapOf};
+ghost use Rattle.report.specs.Texts.{IsProgramOf, ExploreErrorMeans};
+ghost use Rattle.explained.specs.Explained.{ExplainMeans, ExplainFaultMeans, IsExplained};
+ghost use Rattle.explained.specs.Explained.{IsOfReport, asked, explained_status, told_status};
 
-use answering::{
-    ExplainRequest, Exploration, Fault, Printed, ProgressGate, REFUSED, replay_status,
-    verdict_status,
-};
+use answering::{ExplainRequest, Fault, Host, Printed, REFUSED, replay_status, verdict_status};
 use explain::{Explanation, Source};
 use explain_text::{Layout, explanation_text};
 use guest_code::lowering::lower;
@@ -19,11 +15,9 @@ use guest_code::program::Program;
 use guest_code::source_map::SourceMap;
 use guest_syntax::parse;
 use replay::schedule_from;
-use runner::{Report, Verdict, explore};
+use runner::{ExploreError, Report, Verdict};
 use std::alloc::{AllocError, Global};
-use std::io::Eprint;
-use std::sync::{Arc, Wait};
-use std::thread::Threads;
+use std::sync::Arc;
 
 // The line that is told after a search up to a bound found no bad schedule.
 const NO_PROOF: &str = "That is no proof: others have more. Try --unbounded, or a higher --bound.";
@@ -52,11 +46,8 @@ impl Render for Text {
     fn render(&self, alloc: Global, answer: &Explained, source: &Source<'_>, file: &str) -> Output {
         let (explanation, is_fewest) = match answer {
             Explained::Asked(explanation) => (explanation, false),
-            Explained::Found(report, Some(explanation)) => (
-                explanation,
-                has_fewest_preemptions(report),
-            ),
-            Explained::Found(report, None) => {
+            Explained::Found(report, explanation) => (explanation, has_fewest_preemptions(report)),
+            Explained::NoneFound(report) => {
                 return Ok(no_schedule_text(alloc, file, report)?.into_bytes());
             }
         };
@@ -77,62 +68,84 @@ impl Render for Text {
 ///
 /// The first that is wrong: with the text, with the program that the text spells, or with the
 /// schedule's text; `Memory` where memory runs out.
-pub fn explain_text<R: Threads + Wait + Sync + Eprint, T: Render>(
-    rt: &R,
-    alloc: Global,
+pub fn explain_text<H: Host, T: Render>(
+    rt: &H,
     text: &[u8],
     request: &ExplainRequest,
     renderer: &T,
 ) -> Result<Printed, Fault>
     ensures { ExplainMeans text.now request.now result }
 {
-    let tree = parse(alloc, text)?;
-    let program = Arc::new(alloc, lower(alloc, &tree)?)?;
-    let map = SourceMap::new(alloc, &tree)?;
-    let explained = Explained::of_request(rt, alloc, &program, request)?;
+    let alloc = rt.alloc();
+    let (program, map) = program_and_map(alloc, text)?;
+    let explained = Explained::of_request(rt, &program, request)?;
+    let file = request.file.as_str();
     let source = Source {
-        file: request.file.as_bytes(),
+        file: file.as_bytes(),
         text,
         program: &program,
         map: &map,
     };
-    let told = renderer.render(alloc, &explained, &source, request.file.as_str())?;
     Ok(Printed {
-        output: told,
+        output: renderer.render(alloc, &explained, &source, file)?,
         status: explained.status(),
     })
 }
 
-/// The schedule that is explained: one that was asked for, or one that a search found, if it found
-/// any.
+// The program that a text spells, and where its instructions are in the text.
+fn program_and_map(alloc: Global, text: &[u8]) -> Result<(Arc<Program>, SourceMap), ExploreError>
+    ensures program { IfOk result (λ it. IsProgramOf text.now (arc_value it.0)) }
+    ensures map { IfOk result (λ it. IsMapOf it.1 (arc_value it.0)) }
+    ensures error { IfErr result (ExploreErrorMeans text.now) }
+{
+    let tree = parse(alloc, text)?;
+    let program = Arc::new(alloc, lower(alloc, &tree)?)?;
+    Ok((program, SourceMap::new(alloc, &tree)?))
+}
+
+/// The schedule that is explained.
 #[derive(Drop)]
 pub enum Explained {
-    /// The schedule that was asked for.
+    /// The one that was asked for.
     Asked(Explanation),
-    /// The report of a search, and the schedule that the report names, if it names one.
-    Found(Report, Option<Explanation>),
+    /// The one that the report of a search names.
+    Found(Report, Explanation),
+    /// None, since the report of a search names none.
+    NoneFound(Report),
 }
 
 impl Explained {
     // Explains the schedule that a request asks for, or, where it asks for none, searches the
     // program and explains the schedule that the search finds, if any. An error where the
     // schedule's text is refused, or memory runs out.
-    fn of_request<R: Threads + Wait + Sync + Eprint>(
-        rt: &R,
-        alloc: Global,
+    fn of_request<H: Host>(
+        rt: &H,
         program: &Arc<Program>,
         request: &ExplainRequest,
     ) -> Result<Explained, Fault>
         ensures explained { IfOk result (IsExplained (arc_value program.now) request.now) }
-        ensures fault { IfErr result (IsFaultOf request.now.schedule) }
+        ensures fault { IfErr result (λ fault. (text : List ℕ)
+            → IsProgramOf text (arc_value program.now)
+            → ExplainFaultMeans text (asked request.now.schedule) fault) }
     {
-        match &request.schedule {
-            Some(text) => Ok(Explained::Asked(explain_asked(alloc, program, text.as_bytes())?)),
-            None => {
-                let (report, explanation) = search_and_explain(rt, alloc, program, request.search)?;
-                Ok(Explained::Found(report, explanation))
-            }
-        }
+        let alloc = rt.alloc();
+        let Some(schedule) = &request.schedule else {
+            let report = request.search.report(rt, program)?;
+            return Ok(Explained::of_report(alloc, program, report)?);
+        };
+        let steps = schedule_from(alloc, schedule.as_bytes())?;
+        Ok(Explained::Asked(Explanation::new(alloc, program, steps.as_slice())?))
+    }
+
+    // Explains the schedule that the report of a search names, if it names one.
+    fn of_report(alloc: Global, program: &Program, report: Report) -> Result<Explained, AllocError>
+        ensures { IfOk result (IsOfReport program.now report) }
+    {
+        let Some(steps) = report.schedule() else {
+            return Ok(Explained::NoneFound(report));
+        };
+        let explanation = Explanation::new(alloc, program, steps)?;
+        Ok(Explained::Found(report, explanation))
     }
 
     // The status that `ctxbound` ends with: that of the explanation, or, where the search found no
@@ -141,52 +154,11 @@ impl Explained {
         ensures { result ≡ told_status self.now }
     {
         match self {
-            Explained::Asked(explanation) | Explained::Found(_, Some(explanation)) => {
+            Explained::Asked(explanation) | Explained::Found(_, explanation) => {
                 explained_status(explanation)
             }
-            Explained::Found(report, None) => verdict_status(&report.verdict),
+            Explained::NoneFound(report) => verdict_status(&report.verdict),
         }
-    }
-}
-
-// The explanation of the schedule that is asked for by the bytes `schedule`. An error where these
-// spell no schedule, or memory runs out.
-fn explain_asked(alloc: Global, program: &Program, schedule: &[u8]) -> Result<Explanation, Fault>
-    ensures asked { IfOk result (IsAsked program.now schedule.now) }
-    ensures fault { IfErr result (IsScheduleFault schedule.now) }
-{
-    let steps = schedule_from(alloc, schedule)?;
-    Ok(Explanation::new(alloc, program, steps.as_slice())?)
-}
-
-// Searches a program, and explains the schedule that the report names: the report, and the
-// explanation, which is `None` where the report names no schedule.
-fn search_and_explain<R: Threads + Wait + Sync + Eprint>(
-    rt: &R,
-    alloc: Global,
-    program: &Arc<Program>,
-    search: Exploration,
-) -> Result<(Report, Option<Explanation>), Fault>
-    ensures found { IfOk result (λ it. IsFound (arc_value program.now) search.options it.0 it.1) }
-    ensures fault { IfErr result (λ fault. fault ≡ Memory) }
-{
-    let gate = ProgressGate::new(rt, search.progress);
-    let report = explore(rt, alloc, program, search.options, search.workers, &gate)?;
-    let explanation = explain_reported(alloc, program, &report)?;
-    Ok((report, explanation))
-}
-
-// The explanation of the schedule that a report names; `None` where it names none.
-fn explain_reported(
-    alloc: Global,
-    program: &Program,
-    report: &Report,
-) -> Result<Option<Explanation>, AllocError>
-    ensures { IfOk result (IsNamed program.now (named_schedule report.now)) }
-{
-    match report.schedule() {
-        Some(steps) => Ok(Some(Explanation::new(alloc, program, steps)?)),
-        None => Ok(None),
     }
 }
 

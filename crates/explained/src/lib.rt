@@ -4,13 +4,10 @@
 //!   [`ExplainRequest`](answering::ExplainRequest) asks for, or the bad one that a search finds.
 //!   Its contract says which schedule is explained, and the status.
 //! - [`Render`] is the trait of a format of explanations; [`Text`] is the format for a terminal.
-//! - [`serve_explain`] explains a schedule of the program in a file, and writes the explanation.
 #![tactic(auto)]
 
 mod explained;
-mod serving;
 
 pub use crate::explained::{
     Explained, Output, Render, Text, explain_text, has_fewest_preemptions, no_schedule_text,
 };
-pub use crate::serving::serve_explain;

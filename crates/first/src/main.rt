@@ -4,10 +4,12 @@
 #![tactic(auto)]
 
 use answering::{
-    DEFAULT_STEPS, DEFAULT_WIDTH, ExplainRequest, Exploration, GuestRequest, REFUSED, serve_file,
+    CommandFault, DEFAULT_STEPS, DEFAULT_WIDTH, ExplainRequest, Exploration, GuestRequest, Host,
+    Printed, REFUSED, read_file, serve_file, write_printed,
 };
-use explained::{Text, serve_explain};
-use std::io::Write;
+use explained::{Text, explain_text};
+use std::fs::Files;
+use std::io::{Input, Write};
 use std::process::ExitCode;
 
 // What is said where the command line is none of the three commands.
@@ -50,6 +52,21 @@ fn read_request(rt: &HostRuntime) -> Option<Request> {
     Some(Request::Guest { file, request })
 }
 
+// What is printed of the schedule of the guest program in a file that is asked for, or that a search
+// finds; or why nothing is.
+fn explain_file<'a, H: Host + Files + Input>(
+    rt: &H,
+    request: &'a ExplainRequest,
+) -> Result<Printed, CommandFault<'a>> {
+    let file = request.file.as_str();
+    let text = read_file(rt, file).map_err(|error| CommandFault::Device(file, error))?;
+    let form = Text {
+        width: DEFAULT_WIDTH as usize,
+        steps: DEFAULT_STEPS as usize,
+    };
+    Ok(explain_text(rt, text.as_slice(), request, &form)?)
+}
+
 // Does what the command line asks for, or prints `USAGE`, and ends the program with the status.
 fn main(rt: HostRuntime) -> ExitCode {
     let mut out = rt.stdout();
@@ -59,11 +76,7 @@ fn main(rt: HostRuntime) -> ExitCode {
             serve_file(&rt, file.as_str(), &request, &mut out, &mut err)
         }
         Some(Request::Explain(request)) => {
-            let text = Text {
-                width: DEFAULT_WIDTH as usize,
-                steps: DEFAULT_STEPS as usize,
-            };
-            serve_explain(&rt, &request, &text, &mut out, &mut err)
+            write_printed(explain_file(&rt, &request), &mut out, &mut err)
         }
         None => {
             let _ = writeln!(err, "{USAGE}");

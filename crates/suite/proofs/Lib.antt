@@ -1,2 +1,1 @@
 pub mod OneOrTwo
-pub mod Worst

@@ -8,23 +8,23 @@ use Rattle.verify.specs.declared.found.Found.{Found}
 use Rattle.verify.specs.Shown.{options_of, clean_below, IsFound}
 use Rattle.suite.specs.Suites.{is_enough, second_bound, told_search, IsSearched}
 
-pub one_search : (may : Bool) (text : List ℕ) (p : Program) (l : Limits) (f : Found)
-    → IsProgramOf text p → IsFound may p (options_of Unbounded l.limit) f
+pub one_search : (text : List ℕ) (p : Program) (l : Limits) (f : Found)
+    → IsProgramOf text p → IsFound p (options_of Unbounded l.limit) f
     → is_enough f.report.verdict f.bad ≡ true
-    → IsSearched may text l (record { found = f; clear = 0 })
-one_search may text p l f of is enough = record {
+    → IsSearched text l (record { found = f; clear = 0 })
+one_search text p l f of is enough = record {
   program = p;
   is_program = of;
   searches = inl (record { first = is; enough = enough; clear = refl });
   none_below = λ w bad. omega arith;
 }
 
-pub two_searches : (may : Bool) (text : List ℕ) (p : Program) (l : Limits) (f g : Found)
-    → IsProgramOf text p → IsFound may p (options_of Unbounded l.limit) f
+pub two_searches : (text : List ℕ) (p : Program) (l : Limits) (f g : Found)
+    → IsProgramOf text p → IsFound p (options_of Unbounded l.limit) f
     → is_enough f.report.verdict f.bad ≡ false
-    → IsFound may p (options_of (UpTo (second_bound l.bound f.bad)) l.limit) g
-    → IsSearched may text l (record { found = told_search f g; clear = clean_below g.report })
-two_searches may text p l f g of is more bounded = record {
+    → IsFound p (options_of (UpTo (second_bound l.bound f.bad)) l.limit) g
+    → IsSearched text l (record { found = told_search f g; clear = clean_below g.report })
+two_searches text p l f g of is more bounded = record {
   program = p;
   is_program = of;
   searches = inr (record {

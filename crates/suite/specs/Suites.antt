@@ -40,37 +40,37 @@ abbrev pub told_search : Found → Found → Found
 told_search first second = told_of first first.bad second second.bad
 
 -- the search without a bound is told
-pub record IsOfOne (may : Bool) (p : Program) (l : Limits) (s : SearchResult) : Type 0 where
-  pub first : IsFound may p (options_of Unbounded l.limit) s.found
+pub record IsOfOne (p : Program) (l : Limits) (s : SearchResult) : Type 0 where
+  pub first : IsFound p (options_of Unbounded l.limit) s.found
   pub enough : is_enough s.found.report.verdict s.found.bad ≡ true
   pub clear : s.clear ≡ 0
 
 -- a second search was made, and one of both is told
-pub record IsOfTwo (may : Bool) (p : Program) (l : Limits) (s : SearchResult) : Type 0 where
+pub record IsOfTwo (p : Program) (l : Limits) (s : SearchResult) : Type 0 where
   pub first : Found
-  pub unbounded : IsFound may p (options_of Unbounded l.limit) first
+  pub unbounded : IsFound p (options_of Unbounded l.limit) first
   pub more : is_enough first.report.verdict first.bad ≡ false
   pub second : Found
-  pub bounded : IsFound may p (options_of (UpTo (second_bound l.bound first.bad)) l.limit) second
+  pub bounded : IsFound p (options_of (UpTo (second_bound l.bound first.bad)) l.limit) second
   pub told : s.found ≡ told_search first second
   pub clear : s.clear ≡ clean_below second.report
 
 -- the text spells a program; this is told of its searches, and no bad schedule has fewer preemptions
 -- than it says
-pub record IsSearched (may : Bool) (text : List ℕ) (l : Limits) (s : SearchResult) : Type 0 where
+pub record IsSearched (text : List ℕ) (l : Limits) (s : SearchResult) : Type 0 where
   pub program : Program
   pub is_program : IsProgramOf text program
-  pub searches : IsOfOne may program l s ⊎ IsOfTwo may program l s
+  pub searches : IsOfOne program l s ⊎ IsOfTwo program l s
   pub none_below : NoBadBelow program s.clear
 
 -- what the searches of a text answer
-abbrev pub SearchMeans : Bool → List ℕ → Limits → Result SearchResult ExploreError → Type 0
-SearchMeans may text l result =
-    MatchResult result (IsSearched may text l) (ExploreErrorMeans text)
+abbrev pub SearchMeans : List ℕ → Limits → Result SearchResult ExploreError → Type 0
+SearchMeans text l result =
+    MatchResult result (IsSearched text l) (ExploreErrorMeans text)
 
 -- what became of a file that has this text
-abbrev pub OutcomeMeans : Bool → List ℕ → Limits → Outcome → Type 0
-OutcomeMeans may text l (Ended s) = IsSearched may text l s
-OutcomeMeans may text l (Refused e) = ExploreErrorMeans text e
-OutcomeMeans may text l (Unclear line) = Unit {0}
-OutcomeMeans may text l (Unread cause) = ⊥
+abbrev pub OutcomeMeans : List ℕ → Limits → Outcome → Type 0
+OutcomeMeans text l (Ended s) = IsSearched text l s
+OutcomeMeans text l (Refused e) = ExploreErrorMeans text e
+OutcomeMeans text l (Unclear line) = Unit {0}
+OutcomeMeans text l (Unread cause) = ⊥

@@ -6,12 +6,9 @@ ghost use Rattle.suite.specs.Statuses.{bad_status, fewest_status, one_unless, st
 
 use crate::expectation::{Expectation, ExpectedVerdict, expectation_lookalike_line};
 use crate::searches::{SearchResult, search};
-use answering::Limits;
-use runner::{ExploreError, Gate, Verdict};
+use answering::{Host, Limits};
+use runner::{ExploreError, Verdict};
 use semantics::view::Kind;
-use std::alloc::{Alloc, Global};
-use std::sync::Wait;
-use std::thread::Threads;
 use verify::BadSchedule;
 
 /// What became of a file.
@@ -42,21 +39,25 @@ pub struct Entry {
 }
 
 impl Entry {
-    /// Searches the guest program that the text of a file spells, within these limits and until the
-    /// gate stops it, and answers the file's entry. Where it is unclear what the text expects,
-    /// nothing is searched.
-    pub fn of_text<G: Gate, R>(rt: &R, file: String, text: &[u8], limits: Limits, gate: &G) -> Entry
-    where
-        R: Threads + Wait + Sync + Alloc<A = Global>,
+    /// Searches the guest program that the text of a file spells, within these limits, and answers
+    /// the file's entry. If `progress`, it is told on standard error how far the search is. Where it
+    /// is unclear what the text expects, nothing is searched.
+    pub fn of_text<H: Host>(
+        rt: &H,
+        file: String,
+        text: &[u8],
+        limits: Limits,
+        progress: bool,
+    ) -> Entry
         ensures file { result.file ≡ file }
-        ensures outcome { OutcomeMeans (G.stops gate.now) text.now limits result.outcome }
+        ensures outcome { OutcomeMeans text.now limits result.outcome }
     {
         let expected = match Expectation::of_text(text) {
             Expectation::Absent => None,
             Expectation::Stated(expected) => Some(expected),
             Expectation::Unclear(line) => return Entry::unsearched(file, Outcome::Unclear(line)),
         };
-        let outcome = match search(rt, text, limits, gate) {
+        let outcome = match search(rt, text, limits, progress) {
             Ok(searched) => Outcome::Searched(searched),
             Err(error) => Outcome::Refused(error),
         };

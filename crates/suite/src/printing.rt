@@ -6,8 +6,7 @@ use crate::searches::SearchResult;
 use guest_code::error::CheckError;
 use guest_syntax::{Pos, SyntaxError};
 use replay::schedule_text;
-use runner::{ExploreError, Verdict, report_value};
-use serde_json::Value;
+use runner::{ExploreError, Verdict, report_text};
 use std::alloc::{AllocError, Global};
 use std::fmt;
 use std::fmt::Write;
@@ -247,23 +246,30 @@ fn put_search_remarks(
 /// Where the note names a line of the file, and a preprocessor's `marks` say where that line came
 /// from, it names that place. Fails where memory runs out.
 pub fn json_line(alloc: Global, entry: &Entry, marks: &Marks) -> Result<Vec<u8>, AllocError> {
-    let file = Value::try_from_str(alloc, entry.file.as_str())?;
+    let note = note_of(alloc, entry, marks)?;
+    let (file, note) = (json_text(alloc, &entry.file)?, json_text(alloc, &note)?);
     let expected = match entry.expected {
-        Some(expected) => Value::String(expected.to_string(alloc)?),
-        None => Value::Null,
+        Some(expected) => format!(in alloc; "\"{expected}\"")?,
+        None => String::from_str(alloc, "null")?,
     };
     let status = entry.status();
-    let note = Value::String(note_of(alloc, entry, marks)?);
-    let mut text = format!(in alloc;
+    let line = format!(in alloc;
         "{{\"file\":{file},\"expect\":{expected},\"status\":{status},\"note\":{note},"
     )?;
+    let mut line = line.into_bytes();
     match &entry.outcome {
         // the members of the report are these, too
         Outcome::Searched(searched) => {
-            let report = report_value(alloc, &searched.found.report)?.to_string(alloc)?;
-            writeln!(text, "{}", report.strip_prefix('{').unwrap_or(""))?;
+            let report = report_text(alloc, &searched.found.report)?;
+            line.extend_from_slice(report.as_slice().strip_prefix(b"{").unwrap_or(b""))?;
         }
-        _ => writeln!(text, "\"fault\":{note}}}")?,
+        _ => line.extend_from_slice(format!(in alloc; "\"fault\":{note}}}")?.as_bytes())?,
     }
-    Ok(text.into_bytes())
+    line.push(b'\n')?;
+    Ok(line)
+}
+
+// A text as JSON. The serializer fails only where memory runs out.
+fn json_text(alloc: Global, text: &String) -> Result<String, AllocError> {
+    serde_json::to_string(alloc, text).map_err(|_| AllocError)
 }

@@ -3,11 +3,8 @@
 ghost use Rattle.std.specs.Prelude.{◌≡◌};
 ghost use Rattle.suite.specs.Suites.{SearchMeans, is_enough, second_bound, told_search};
 
-use answering::Limits;
-use runner::{BOUND, ExploreError, Gate, Search, Verdict};
-use std::alloc::{Alloc, Global};
-use std::sync::Wait;
-use std::thread::Threads;
+use answering::{Host, Limits};
+use runner::{BOUND, ExploreError, Search, Verdict};
 use verify::{BadSchedule, Found, program_of, run_search};
 
 /// What the searches of a text show.
@@ -20,8 +17,8 @@ pub struct SearchResult {
 }
 
 /// Searches the guest program of a text, once or twice, and answers the search to report. Each is
-/// cut short at the number of schedules in `limits`, or where the gate stops it. The first has no
-/// bound. Where it comes to its end and finds no bad schedule, or one without a preemption, it is
+/// cut short at the number of schedules in `limits`; if `progress`, it is told on standard error how
+/// far it is. The first has no bound. Where it comes to its end and finds no bad schedule, or one without a preemption, it is
 /// reported. Else a second search is made: up to as many preemptions as the bad schedule of the
 /// first has, so that one with fewest is reported, or up to the limits' bound where the first found
 /// none. The second is reported, unless only the first found a bad schedule.
@@ -30,18 +27,16 @@ pub struct SearchResult {
 ///
 /// What is wrong with the text, or `OutOfMemory` where memory runs out.
 #[tactic(auto, using(crate::proofs::OneOrTwo::one_search, crate::proofs::OneOrTwo::two_searches))]
-pub fn search<G: Gate, R>(
-    rt: &R,
+pub fn search<H: Host>(
+    rt: &H,
     text: &[u8],
     limits: Limits,
-    gate: &G,
+    progress: bool,
 ) -> Result<SearchResult, ExploreError>
-where
-    R: Threads + Wait + Sync + Alloc<A = Global>,
-    ensures { SearchMeans (G.stops gate.now) text.now limits result }
+    ensures { SearchMeans text.now limits result }
 {
     let program = program_of(rt.alloc(), text)?;
-    let first = run_search(rt, &program, Search::Unbounded, limits, gate)?;
+    let first = run_search(rt, &program, Search::Unbounded, limits, progress)?;
     if is_enough(&first) {
         return Ok(SearchResult {
             found: first,
@@ -49,7 +44,7 @@ where
         });
     }
     let bound = second_bound(limits.bound, &first.bad);
-    let second = run_search(rt, &program, Search::UpTo(bound), limits, gate)?;
+    let second = run_search(rt, &program, Search::UpTo(bound), limits, progress)?;
     let clear = second.clean_below();
     let found = reported_search(first, second);
     Ok(SearchResult { found, clear })

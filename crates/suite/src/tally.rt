@@ -32,17 +32,10 @@ impl Tally {
     }
 
     /// The status of a suite: the greatest of its files', or 0 where it has none.
-    #[tactic(auto, using(crate::proofs::Worst::worst_stays, crate::proofs::Worst::worst_grows))]
     pub fn worst(&self) -> u8
         ensures { IsWorst self.now.statuses.items result }
     {
-        let mut worst = 0;
-        for status in &self.statuses {
-            if *status > worst {
-                worst = *status;
-            }
-        }
-        worst
+        self.statuses.iter().copied().max().unwrap_or(0)
     }
 
     // How many of the files have this status.

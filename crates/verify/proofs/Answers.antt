@@ -1,5 +1,5 @@
 -- What an answer says of the searches that it is from.
-use Rattle.std.proofs.Common.{◌≡◌, ◌⊎◌, ℕ, ◌+◌, ◌<◌, ◌≤◌, nat_le, min, Bool, true, false, List, Option, Some, None}
+use Rattle.std.proofs.Common.{◌≡◌, ◌⊎◌, ℕ, ◌+◌, ◌<◌, ◌≤◌, nat_le, Bool, true, false, List, Option, Some, None}
 use Rattle.std.proofs.Common.{inl, inr, refl, sym, ap, subst, arith}
 use Rattle.std.proofs.lemmas.Bool.{leb-true, leb-false, le-leb}
 use Rattle.guest_code.specs.Program.{Program}
@@ -16,7 +16,7 @@ use Rattle.verify.specs.declared.found.BadSchedule.{BadSchedule}
 use Rattle.verify.specs.declared.found.Found.{Found}
 use Rattle.verify.specs.Shown.{options_of, is_clean, is_cut_short, IsBadOf, IsNamedBad, IsFound}
 use Rattle.verify.specs.Shown.{WasCut, Names, IsLeft}
-use Rattle.verify.specs.Answers.{AnswerMeans, IsOpen, MayHaveFewer, answer_of, stop_of}
+use Rattle.verify.specs.Answers.{AnswerMeans, answer_of, stop_of}
 use Rattle.verify.proofs.Shows.{named_has_few}
 
 -- none has fewer preemptions than this many, so none has fewer than fewer
@@ -41,7 +41,7 @@ names_few : (p : Program) (l : Limits) (bound : ℕ) (b : BadSchedule)
 names_few p l bound b n =
     let is = names_bad p (options_of (UpTo bound) l.limit) b n in
     let few : preemptions p b.steps.items ≤ bound =
-    named_has_few false p (options_of (UpTo bound) l.limit) bound n.found.report n.of.report.1
+    named_has_few p (options_of (UpTo bound) l.limit) bound n.found.report n.of.report.1
     b.steps.items is.0 in
     let count : b.preemptions ≡ preemptions p b.steps.items = is.1.count in
     omega (arith, few, count)
@@ -57,7 +57,7 @@ cut_of first (Bad k w kind) dirty none = absurd cc
 cut_of first (Incomplete cause finished) dirty none = refl
 
 -- a search that isn't clean names a schedule, or was cut short
-pub left_by : (p : Program) (o : Options) (f : Found) → IsFound false p o f
+pub left_by : (p : Program) (o : Options) (f : Found) → IsFound p o f
     → is_clean f.report.verdict ≡ false → IsLeft p o f.bad
 left_by p o f is dirty = go f.bad refl
   where
@@ -105,7 +105,7 @@ far_means p l b clear named none cut = go (nat_le b.preemptions clear) refl
 
 -- after a search up to a bound that isn't clean
 pub stopped_at : (p : Program) (l : Limits) (f : Found) (known : Option BadSchedule) (bound : ℕ)
-    → IsFound false p (options_of (UpTo bound) l.limit) f → is_clean f.report.verdict ≡ false
+    → IsFound p (options_of (UpTo bound) l.limit) f → is_clean f.report.verdict ≡ false
     → IsLeft p (options_of Unbounded l.limit) known → NoBadBelow p bound
     → AnswerMeans p l (answer_of f.bad known bound)
 stopped_at p l f known bound is dirty far none =

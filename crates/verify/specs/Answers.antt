@@ -23,6 +23,12 @@ answer_of (Some b) known clear = Bad b (nat_le b.preemptions clear)
 answer_of None (Some b) clear = Bad b (nat_le b.preemptions clear)
 answer_of None None clear = Undecided clear
 
+-- the status after an answer
+abbrev pub status_of : Correctness → ℕ
+status_of Right = 0
+status_of (Bad b is_fewest) = 1
+status_of (Undecided below) = 3
+
 -- no bad schedule has fewer preemptions than this, and whether one has as many is left open: the
 -- search up to it was cut short and names none, unless it is past the last bound
 pub record IsOpen (p : Program) (l : Limits) (below : ℕ) : Type 0 where

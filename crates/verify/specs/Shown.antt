@@ -69,8 +69,8 @@ IsRightUpTo p (UpTo last) = NoBadBelow p (last + 1)
 IsRightUpTo p Unbounded = IsRight p
 
 -- the report of a search, the bad schedule that it names, and what both say of all schedules
-pub record IsFound (may : Bool) (p : Program) (o : Options) (f : Found) : Type 0 where
-  pub report : IsReport may p o f.report
+pub record IsFound (p : Program) (o : Options) (f : Found) : Type 0 where
+  pub report : IsReport false p o f.report
   pub bad : IsNamedBad p (named_schedule f.report) f.bad
   pub clear : NoBadBelow p (clean_below f.report)
   pub clean : is_clean f.report.verdict ≡ true → IsRightUpTo p o.search
@@ -86,7 +86,7 @@ pub record WasCut (p : Program) (o : Options) : Type 0 where
 -- the report of a search names this bad schedule
 pub record Names (p : Program) (o : Options) (b : BadSchedule) : Type 0 where
   pub found : Found
-  pub of : IsFound false p o found
+  pub of : IsFound p o found
   pub named : found.bad ≡ Some b
 
 -- the bad schedule that a search names, or, where it names none, that it was cut short

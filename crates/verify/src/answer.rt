@@ -1,22 +1,22 @@
 //! Whether a program is right: none of its schedules fails or gets stuck.
 
-ghost use Rattle.std.specs.Prelude.{◌≡◌, ◌≤◌, IfOk, IfErr};
+ghost use Rattle.std.specs.Prelude.{◌≡◌, ◌≤◌, IfOk, IfErr, MatchResult};
 ghost use Rattle.std.specs.Arc.{arc_value};
 ghost use Rattle.items.specs.declared.limits.TheConstants.{BOUND};
 ghost use Rattle.report.specs.declared.error.ExploreError.TheVariants.{OutOfMemory};
 ghost use Rattle.report.specs.declared.options.Search.TheVariants.{Unbounded};
-ghost use Rattle.verify.specs.Shown.{options_of, IsLeft};
-ghost use Rattle.verify.specs.Answers.{AnswerMeans, answer_of, stop_of};
+ghost use Rattle.report.specs.Promises.{IsSearch};
+ghost use Rattle.report.specs.Texts.{ExploreErrorMeans};
+ghost use Rattle.verify.specs.Shown.{options_of, IsFound, IsLeft};
+ghost use Rattle.verify.specs.Answers.{AnswerMeans, IsAnswerOfText, answer_of, status_of, stop_of};
 
 use crate::found::{BadSchedule, Found, run_search};
-use answering::Limits;
+use answering::{Host, Limits};
 use guest_code::program::Program;
-use runner::{ExploreError, Open, Search, Verdict};
-use std::alloc::{Alloc, Global};
-use std::fmt;
+use runner::{ExploreError, Search, Verdict, program_of};
 use std::io::Write;
-use std::sync::{Arc, Wait};
-use std::thread::Threads;
+use std::sync::Arc;
+use std::{fmt, io};
 
 /// Whether a program is right, as far as searches show.
 #[derive(Drop)]
@@ -36,6 +36,20 @@ pub enum Correctness {
     },
 }
 
+impl Correctness {
+    /// The status that the program ends with: 0 where the program is right, 1 where a schedule is
+    /// bad, 3 where the searches left open whether one is.
+    pub fn status(&self) -> u8
+        ensures { result ≡ status_of self.now }
+    {
+        match self {
+            Correctness::Right => 0,
+            Correctness::Bad { .. } => 1,
+            Correctness::Undecided { .. } => 3,
+        }
+    }
+}
+
 /// A number of preemptions, which is displayed in words: `no preemption`, `1 preemption` or
 /// `2 preemptions`.
 #[derive(Clone, Copy, Debug)]
@@ -48,39 +62,6 @@ impl fmt::Display for Preemptions {
             0 => write!(f, "no preemption"),
             1 => write!(f, "1 preemption"),
             count => write!(f, "{count} preemptions"),
-        }
-    }
-}
-
-// The line that is written on a search as it ends: how far it was to go, and what it found.
-#[derive(Clone, Copy)]
-struct SearchLine<'a> {
-    search: Search,
-    found: &'a Found,
-}
-
-impl fmt::Display for SearchLine<'_> {
-    // How far a search was to go, and what it found, with how many schedules it tried.
-    fn fmt<W: fmt::Write>(&self, f: &mut fmt::Formatter<W>) -> fmt::Result {
-        let Found { report, bad } = self.found;
-        let tried = report.summary.tried();
-        match self.search {
-            Search::UpTo(0) => write!(f, "{}: ", Preemptions(0))?,
-            Search::UpTo(bound) => write!(f, "at most {}: ", Preemptions(bound))?,
-            Search::Unbounded => write!(f, "all schedules: ")?,
-        }
-        match (&report.verdict, bad) {
-            (Verdict::Clean { .. }, _) => write!(f, "none is bad ({tried} tried)"),
-            (Verdict::Bad { preemptions, .. }, _) => {
-                let count = Preemptions(*preemptions);
-                write!(f, "one with {count} is bad ({tried} tried)")
-            }
-            (Verdict::Incomplete { .. }, Some(_)) => {
-                write!(f, "cut short, and one of the {tried} tried is bad")
-            }
-            (Verdict::Incomplete { .. }, None) => {
-                write!(f, "cut short, and none of the {tried} tried is bad")
-            }
         }
     }
 }
@@ -116,11 +97,48 @@ fn bad_or_undecided(
     }
 }
 
-// Writes to `out` a line on a search that ended. A failure is passed over: writing the answer to
-// the same stream at the end fails, too, and that is told.
-fn write_search_line<W: Write>(out: &mut W, search: Search, found: &Found) {
-    let _ = writeln!(out, "{}", SearchLine { search, found });
-    let _ = out.flush();
+// Writes to `out` a line on a search as it ends: how far it was to go, and what it found, with how
+// many schedules it tried.
+fn write_search_line<W: Write>(out: &mut W, search: Search, found: &Found) -> io::Result<()> {
+    match search {
+        Search::UpTo(0) => write!(out, "{}: ", Preemptions(0))?,
+        Search::UpTo(bound) => write!(out, "at most {}: ", Preemptions(bound))?,
+        Search::Unbounded => write!(out, "all schedules: ")?,
+    }
+    let Found { report, bad } = found;
+    let tried = report.summary.tried();
+    match (&report.verdict, bad) {
+        (Verdict::Clean { .. }, _) => writeln!(out, "none is bad ({tried} tried)")?,
+        (Verdict::Bad { preemptions, .. }, _) => {
+            let count = Preemptions(*preemptions);
+            writeln!(out, "one with {count} is bad ({tried} tried)")?;
+        }
+        (Verdict::Incomplete { .. }, Some(_)) => {
+            writeln!(out, "cut short, and one of the {tried} tried is bad")?;
+        }
+        (Verdict::Incomplete { .. }, None) => {
+            writeln!(out, "cut short, and none of the {tried} tried is bad")?;
+        }
+    }
+    out.flush()
+}
+
+// Makes one search of a program, and writes a line on it to `out`. Where that fails the search
+// counts all the same: writing the answer to the same stream at the end fails, too.
+fn search_and_tell<H: Host, W: Write>(
+    rt: &H,
+    program: &Arc<Program>,
+    search: Search,
+    limits: Limits,
+    out: &mut W,
+) -> Result<Found, ExploreError>
+    requires { IsSearch search }
+    ensures found { IfOk result (IsFound (arc_value program.now) (options_of search limits.limit)) }
+    ensures error { IfErr result (λ e. e ≡ OutOfMemory) }
+{
+    let found = run_search(rt, program, search, limits, false)?;
+    let _ = write_search_line(out, search, &found);
+    Ok(found)
 }
 
 // Whether no schedule of a program is bad, by searches up to 0, 1, 2 .. preemptions, at most the
@@ -128,24 +146,20 @@ fn write_search_line<W: Write>(out: &mut W, search: Search, found: &Found) {
 // that none is bad, finds a bad one or is cut short. The search without a bound, which was made
 // before, found `known`, or was cut short and found none. A line on each is written to `out`.
 #[tactic(auto, using(crate::proofs::Answers::stop_low, crate::proofs::Answers::stopped_at, crate::proofs::Answers::gone_through))]
-fn answer_by_bounds<R, W: Write>(
-    rt: &R,
+fn answer_by_bounds<H: Host, W: Write>(
+    rt: &H,
     program: &Arc<Program>,
     limits: Limits,
     known: Option<BadSchedule>,
     out: &mut W,
 ) -> Result<Correctness, ExploreError>
-where
-    R: Threads + Wait + Sync + Alloc<A = Global>,
     requires known { IsLeft (arc_value program.now) (options_of Unbounded limits.limit) known }
     ensures answer { IfOk result (AnswerMeans (arc_value program.now) limits) }
     ensures error { IfErr result (λ e. e ≡ OutOfMemory) }
 {
     let stop = bound_count(&known, limits.bound);
     for bound in 0..stop {
-        let search = Search::UpTo(bound);
-        let found = run_search(rt, program, search, limits, &Open)?;
-        write_search_line(out, search, &found);
+        let found = search_and_tell(rt, program, Search::UpTo(bound), limits, out)?;
         if found.shows_right() {
             return Ok(Correctness::Right);
         }
@@ -165,21 +179,36 @@ where
 ///
 /// `OutOfMemory` where memory runs out.
 #[tactic(auto, using(crate::proofs::Answers::left_by))]
-pub fn verify<R, W: Write>(
-    rt: &R,
+pub fn verify<H: Host, W: Write>(
+    rt: &H,
     program: &Arc<Program>,
     limits: Limits,
     out: &mut W,
 ) -> Result<Correctness, ExploreError>
-where
-    R: Threads + Wait + Sync + Alloc<A = Global>,
     ensures answer { IfOk result (AnswerMeans (arc_value program.now) limits) }
     ensures error { IfErr result (λ e. e ≡ OutOfMemory) }
 {
-    let found = run_search(rt, program, Search::Unbounded, limits, &Open)?;
-    write_search_line(out, Search::Unbounded, &found);
+    let found = search_and_tell(rt, program, Search::Unbounded, limits, out)?;
     if found.is_clean() {
         return Ok(Correctness::Right);
     }
     answer_by_bounds(rt, program, limits, found.bad, out)
+}
+
+/// Whether the program that a text spells is right. Answers what [`verify`] does, which writes a
+/// line on each search to `out`.
+///
+/// # Errors
+///
+/// What is wrong with the text; `OutOfMemory` where memory runs out.
+pub fn verify_text<H: Host, W: Write>(
+    rt: &H,
+    text: &[u8],
+    limits: Limits,
+    out: &mut W,
+) -> Result<Correctness, ExploreError>
+    ensures { MatchResult result (IsAnswerOfText text.now limits) (ExploreErrorMeans text.now) }
+{
+    let program = program_of(rt.alloc(), text)?;
+    verify(rt, &program, limits, out)
 }

@@ -6,15 +6,14 @@ ghost use Rattle.report.specs.declared.error.ExploreError.TheVariants.{OutOfMemo
 ghost use Rattle.report.specs.Promises.{IsSearch};
 ghost use Rattle.report.specs.Reports.{IsBadSchedule};
 ghost use Rattle.report.specs.ReportText.{named_schedule};
-ghost use Rattle.verify.specs.Shown.{options_of, clean_below, is_right, is_clean, IsBadOf, IsNamedBad, IsFound};
+ghost use Rattle.verify.specs.Shown.{options_of, clean_below, is_right, is_clean, IsNamedBad, IsFound};
 
-use answering::Limits;
+use answering::{Exploration, Host, Limits};
 use guest_code::program::Program;
-use runner::{ExploreError, Gate, Options, QUOTA, Report, Search, Verdict, end_of, explore};
+use runner::{ExploreError, Options, QUOTA, Report, Search, Verdict, end_of};
 use semantics::view::Kind;
-use std::alloc::{Alloc, Global};
-use std::sync::{Arc, Wait};
-use std::thread::Threads;
+use std::alloc::Global;
+use std::sync::Arc;
 
 /// A complete schedule that fails or gets stuck.
 #[derive(Debug, Drop)]
@@ -82,34 +81,8 @@ fn next_bound(bound: u32) -> u64
     u64::from(bound) + 1
 }
 
-// The options of a search that goes as far as `search` says, is cut short at `limit` schedules, has
-// the quota `QUOTA`, and isn't a quick one.
-fn options_of(search: Search, limit: u64) -> Options
-    ensures { result ≡ options_of search limit }
-{
-    Options {
-        search,
-        limit: Some(limit),
-        quota: QUOTA,
-        quick: false,
-    }
-}
-
-// The bad schedule of these steps, with its preemptions and how it ends, which a replay shows.
-fn bad_schedule(alloc: Global, program: &Program, steps: &[u8]) -> Result<BadSchedule, ExploreError>
-    requires { IsBadSchedule program.now steps.now }
-    ensures bad { IfOk result (λ b. (b.steps.items ≡ steps.now) × IsBadOf program.now b) }
-    ensures error { IfErr result (λ e. e ≡ OutOfMemory) }
-{
-    let (kind, preemptions) = end_of(alloc, program, steps)?;
-    Ok(BadSchedule {
-        steps: steps.to_vec(alloc)?,
-        preemptions,
-        kind,
-    })
-}
-
-// The bad schedule that a report names, with its preemptions and kind; `None` where it names none.
+// The bad schedule that a report names, with its preemptions and how it ends, which a replay shows;
+// `None` where it names none.
 fn named_bad_schedule(
     alloc: Global,
     program: &Program,
@@ -119,37 +92,47 @@ fn named_bad_schedule(
     ensures bad { IfOk result (IsNamedBad program.now (named_schedule report.now)) }
     ensures error { IfErr result (λ e. e ≡ OutOfMemory) }
 {
-    match report.schedule() {
-        Some(steps) => Ok(Some(bad_schedule(alloc, program, steps)?)),
-        None => Ok(None),
-    }
+    let Some(steps) = report.schedule() else {
+        return Ok(None);
+    };
+    let (kind, preemptions) = end_of(alloc, program, steps)?;
+    Ok(Some(BadSchedule {
+        steps: steps.to_vec(alloc)?,
+        preemptions,
+        kind,
+    }))
 }
 
 /// Searches a program as far as `search` says, by the workers of `limits`, and cuts the search
-/// short at the number of schedules in `limits`, or where the gate stops it. The bound of `limits`
-/// isn't used.
+/// short at the number of schedules in `limits`. The bound of `limits` isn't used. If `progress`, it
+/// is told on standard error how far the search is.
 ///
 /// # Errors
 ///
 /// `OutOfMemory` where memory runs out.
 #[tactic(auto, using(crate::proofs::Shows::named_is_bad, crate::proofs::Shows::found_is))]
-pub fn run_search<G: Gate, R>(
-    rt: &R,
+pub fn run_search<H: Host>(
+    rt: &H,
     program: &Arc<Program>,
     search: Search,
     limits: Limits,
-    gate: &G,
+    progress: bool,
 ) -> Result<Found, ExploreError>
-where
-    R: Threads + Wait + Sync + Alloc<A = Global>,
     requires { IsSearch search }
-    ensures found { IfOk result (IsFound (G.stops gate.now) (arc_value program.now)
-        (options_of search limits.limit)) }
+    ensures found { IfOk result (IsFound (arc_value program.now) (options_of search limits.limit)) }
     ensures error { IfErr result (λ e. e ≡ OutOfMemory) }
 {
-    let alloc = rt.alloc();
-    let options = options_of(search, limits.limit);
-    let report = explore(rt, alloc, program, options, limits.workers, gate)?;
-    let bad = named_bad_schedule(alloc, program, &report)?;
+    let exploration = Exploration {
+        options: Options {
+            search,
+            limit: Some(limits.limit),
+            quota: QUOTA,
+            quick: false,
+        },
+        workers: limits.workers,
+        progress,
+    };
+    let report = exploration.report(rt, program)?;
+    let bad = named_bad_schedule(rt.alloc(), program, &report)?;
     Ok(Found { report, bad })
 }

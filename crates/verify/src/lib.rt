@@ -11,9 +11,7 @@
 
 mod answer;
 mod found;
-mod text;
 
-pub use answer::{Correctness, Preemptions, verify};
+pub use answer::{Correctness, Preemptions, verify, verify_text};
 pub use found::{BadSchedule, Found, run_search};
 pub use runner::program_of;
-pub use text::verify_text;
