@@ -31,9 +31,12 @@ MOST_PREFIXES = 150
 # The line of a part, and why it is that of none where something in it is something else.
 LINE = ('{"beyond":true,"bound":1,"ends":[{"kind":"done","vars":[50,-7]},{"kind":"stuck","vars":[]}],"failed":0,'
         '"guest":{"bytes":3,"sha256":"ba7816bf8f01cfea414140de5dae2223b00361a396177a9cb410ff61f20015ad"},'
-        '"schedule":"0x2,1","stuck":2,"tried":6,"under":"0"}')
+        '"schedule":"0x2,1","stuck":2,"tried":6,"under":"0","version":1}')
 NO_LINES = {
     "no JSON": [("{", ""), ('"tried":6', '"tried":6,'), ('"tried":6', '"tried":06'), ('"tried":6', '"tried":6}')],
+    "parts are of version 1, not 2": [('"version":1', '"version":2')],
+    "version is not a count": [('"version":1', '"version":"1"')],
+    "no key version": [(',"version":1', "")],
     "no key beyond": [('"beyond":true,', "")],
     "no key under": [('"under":"0"', '"UNDER":"0"')],
     "beyond is not true or false": [("true", "1")],
@@ -86,7 +89,7 @@ def level(tried, beyond, bound, prefix, text):
     told = {"beyond": beyond, "bound": bound, "ends": [{"kind": kind, "vars": list(values)} for kind, values in ends],
             "failed": sum(one.kind == "failed" for one in tried), "stuck": sum(one.kind == "stuck" for one in tried),
             "guest": {"bytes": len(text), "sha256": hashlib.sha256(text).hexdigest()}, "tried": len(tried),
-            "schedule": schedule_text(bad[0]) if bad else None, "under": schedule_text(prefix)}
+            "schedule": schedule_text(bad[0]) if bad else None, "under": schedule_text(prefix), "version": 1}
     return compact(told)
 
 
@@ -253,6 +256,8 @@ class Parts(Tester):
         lines = [out for out, _, _ in self.parts(other, search, self.prefixes(other, search, 1))]
         out, err, status = self.join(path, search, lines)
         self.expect("another guest", (out, err, status) == ("", "ctxbound: -: another guest under -\n", 2), out, err)
+        self.refused("another version", other, search, [lines[0], changed(lines[0].splitlines()[0], version=2)],
+                     "-:%d: parts are of version 1, not 2" % (lines[0].count("\n") + 1), 2)
 
     def hostile(self, path, search):
         """Each byte of a line is another one, beside the line as it is; and the line ends at each place."""
@@ -277,7 +282,7 @@ class Parts(Tester):
         for text, told, status in (
                 ("", "parts: nothing under -", 3), ("\n \n\t\r\n", "parts: nothing under -", 3),
                 ("%s", "-: another guest under 0", 2), ("%s\n\n%s\r\n", "-: another guest under 0", 2),
-                ("\n%s\n{}\nx", "-:3: no key under", 2), ("%s %s", "-:1: no JSON", 2)):
+                ("\n%s\n{}\nx", "-:3: no key version", 2), ("%s %s", "-:1: no JSON", 2)):
             self.refused("lines as %r" % text, path, search, [text.replace("%s", LINE)], told, status)
 
     # ---- words

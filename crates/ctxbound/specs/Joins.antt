@@ -8,16 +8,17 @@ use Rattle.report.specs.ReportText.{report_text}
 use Rattle.parts.specs.declared.part.Part.{Part}
 use Rattle.joining.specs.declared.error.JoinError.{JoinError}
 use Rattle.joining.specs.ErrorTexts.{needs_work}
-use Rattle.joining.specs.Parts.{AreHonest, options_of}
+use Rattle.joining.specs.Parts.{AreHonest, AreTested, options_of}
 use Rattle.answering.specs.declared.answer.Printed.{Printed}
 use Rattle.answering.specs.Status.{verdict_status}
 
--- the text of a report and a line feed, and the status of its verdict; where the parts are honest
--- it is a report of the program
+-- the text of a report and a line feed, and the status of its verdict; the parts were tested, and
+-- where they are honest it is a report of the program
 pub record IsJoined (p : Program) (search : Search) (parts : List Part) (printed : Printed) :
     Type 0 where
   pub report : Report
-  pub of : AreHonest p parts → IsReport false p (options_of search) report
+  pub tested : AreTested p search parts
+  pub of : AreHonest p search parts → IsReport false p (options_of search) report
   pub output : printed.output.items ≡ report_text report ++ codes "\n"
   pub status : printed.status ≡ verdict_status report.verdict
 

@@ -8,7 +8,7 @@ ghost use Rattle.ctxbound.specs.Joins.{IsJoined, error_status};
 use answering::{CommandFault, Fault, JoinRequest, Printed, REFUSED, read_bytes};
 use guest_code::program::Program;
 use joining::{JoinError, join};
-use parts::{GuestDigest, Part, PartError, parts_from};
+use parts::{Part, PartError, first_of_another, parts_from};
 use replay::schedule_text;
 use report::Search;
 use std::alloc::{Alloc, Global};
@@ -31,10 +31,9 @@ pub fn join_files<'a, H: Files + Input + Alloc<A = Global>>(
 ) -> Result<Printed, CommandFault<'a>> {
     let alloc = rt.alloc();
     let program = program_of(alloc, text)?;
-    let guest = GuestDigest::of_text(text);
     let mut parts = Vec::new(alloc);
     for file in &request.parts {
-        push_parts(rt, &mut parts, guest, file.as_str())?;
+        push_parts(rt, &mut parts, text, file.as_str())?;
     }
     match printed_report(alloc, &program, request.search, parts.as_slice()) {
         Ok(printed) => Ok(printed),
@@ -49,17 +48,18 @@ pub fn join_files<'a, H: Files + Input + Alloc<A = Global>>(
 }
 
 // Reads the parts in a file and pushes them to `parts`. An error where the file can't be read, a
-// line spells no part, a part is of another guest, or memory runs out; then none is pushed.
+// line spells no part, a part is of another guest than that with this text, or memory runs out;
+// then none is pushed.
 fn push_parts<'a, H: Files + Input + Alloc<A = Global>>(
     rt: &H,
     parts: &mut Vec<Part>,
-    guest: GuestDigest,
+    text: &[u8],
     file: &'a str,
 ) -> Result<(), CommandFault<'a>> {
     let alloc = rt.alloc();
-    let text = read_bytes(rt, file, u64::MAX).map_err(|error| CommandFault::Device(file, error))?;
-    let line = match parts_from(alloc, text.as_slice()) {
-        Ok(found) => match found.iter().find(|part| part.guest != guest) {
+    let lines = read_bytes(rt, file, u64::MAX).map_err(|error| CommandFault::Device(file, error))?;
+    let line = match parts_from(alloc, lines.as_slice()) {
+        Ok(found) => match first_of_another(found.as_slice(), text) {
             None => return Ok(parts.extend(found)?),
             Some(other) => {
                 let under = schedule_text(alloc, other.under.as_slice())?;

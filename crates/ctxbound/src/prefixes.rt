@@ -36,9 +36,9 @@ pub fn list_prefixes(
     })
 }
 
-/// The mode in which prefixes are listed: with sleep sets if `is_pruned`, else with a bound, whose
-/// number makes no difference to the prefixes.
-pub fn listing_mode(is_pruned: bool) -> Mode
+// The mode in which prefixes are listed: with sleep sets if `is_pruned`, else with a bound, whose
+// number makes no difference to the prefixes.
+fn listing_mode(is_pruned: bool) -> Mode
     ensures { result ≡ listing_mode is_pruned }
 {
     if is_pruned {

@@ -4,19 +4,18 @@ ghost use Rattle.std.specs.Prelude.{◌≡◌, ℕ, List, Some, IfOk, IfErr, str
 ghost use Rattle.std.specs.Arc.{arc_value};
 ghost use Rattle.std.specs.List.{flat_map};
 ghost use Rattle.answering.specs.Answer.{FaultMeans};
-ghost use Rattle.ctxbound.specs.Under.{prefix_mode, AreLevelsUnder, level_line, last_status};
-ghost use Rattle.ctxbound.specs.Under.{IsSearchUnder};
+ghost use Rattle.joining.specs.Found.{AreLevelsUnder};
+ghost use Rattle.ctxbound.specs.Under.{level_line, last_status, IsSearchUnder};
 ghost use Rattle.replay.specs.Spelling.{Spells};
 ghost use Rattle.report.specs.Texts.{IsProgramOf};
 
-use crate::prefixes::listing_mode;
 use answering::{Exploration, Fault, Host, Printed, ProgressGate, UnderRequest};
 use cover::item_under;
 use guest_code::program::Program;
-use items::mode::Mode;
+use joining::last_mode;
 use parts::{GuestDigest, Part, part_line};
 use replay::schedule_from;
-use report::{Level, Options, Search};
+use report::{Level, Options};
 use runner::explore_under;
 use std::alloc::{AllocError, Global};
 use std::sync::Arc;
@@ -61,7 +60,7 @@ fn levels_under<H: Host>(
         → FaultMeans text (Some schedule) fault) }
 {
     let alloc = rt.alloc();
-    let mode = prefix_mode(search.options.search);
+    let mode = last_mode(search.options.search);
     let Some(item) = item_under(alloc, program, mode, prefix)? else {
         return Ok(vec![in alloc;
             Level {
@@ -73,14 +72,6 @@ fn levels_under<H: Host>(
     };
     let gate = ProgressGate::new(rt, search.progress);
     Ok(explore_under(rt, alloc, item, search.options, search.workers, &gate)?)
-}
-
-// The mode in which the prefixes for a search are listed: with sleep sets where the search has no
-// bound, else with a bound.
-fn prefix_mode(search: Search) -> Mode
-    ensures { result ≡ prefix_mode search }
-{
-    listing_mode(matches!(search, Search::Unbounded))
 }
 
 // The status after a search under a prefix: 3 where the last of its levels was cut short, 1 where that

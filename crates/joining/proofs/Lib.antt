@@ -1,3 +1,4 @@
 pub mod ByPrefix
+pub mod Found
 pub mod Sums
 pub mod Told

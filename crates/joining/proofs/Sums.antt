@@ -1,11 +1,11 @@
--- What honest parts tell is what there is, and their join the program's sum.
-use Rattle.std.proofs.Common.{◌≡◌, ◌⊎◌, inl, inr, ℕ, ◌+◌, ◌<◌, Bool, true, false, cond}
-use Rattle.std.proofs.Common.{List, [], ◌∷◌, ◌++◌, map, take, ap, ◌∙◌, sym, subst, arith}
+-- What honest parts tell is what there is, and their sum the program's.
+use Rattle.std.proofs.Common.{◌≡◌, ◌⊎◌, inl, inr, ℕ, ◌+◌, ◌<◌, ◌≤◌, Bool, true, false, cond}
+use Rattle.std.proofs.Common.{List, [], ◌∷◌, ◌++◌, map, take, ap, refl, ◌∙◌, sym, subst, arith}
 use Rattle.std.proofs.Common.{Option, Some, None, get_or, length}
-use Rattle.std.specs.List.{All, Contains}
-use Rattle.std.proofs.lemmas.Bool.{cases_order}
+use Rattle.std.specs.Prelude.{IfSome, IfNone}
+use Rattle.std.specs.List.{All, AllZip, Contains}
 use Rattle.std.proofs.lemmas.List.{take_more}
-use Rattle.std.proofs.lemmas.List.Elements.{All-contains}
+use Rattle.std.proofs.lemmas.List.Elements.{All-contains, All-head, All-tail}
 use Rattle.guest_code.specs.Program.{Program}
 use Rattle.semantics.proofs.ListMembers.{in_contains, at_in, in_map}
 use Rattle.schedules.specs.Order.{lesser, precedes}
@@ -20,18 +20,29 @@ use Rattle.cover.specs.Under.{IsUnder}
 use Rattle.cover.proofs.Covers.{cover_sum}
 use Rattle.cover.proofs.Lengths.{same_cover}
 use Rattle.cover.proofs.Settled.{settled_sum}
+use Rattle.report.specs.declared.options.Options.{Options}
 use Rattle.report.specs.declared.options.Search.{Search}
 use Rattle.report.specs.declared.options.Search.TheVariants.{UpTo, Unbounded}
-use Rattle.parts.specs.declared.part.Part.{Part}
-use Rattle.runner.specs.Levels.{IsModeOf, GoesOn, HasPassed, IsPassed, IsOfProgram}
-use Rattle.std.specs.Prelude.{IfSome, IfNone}
-use Rattle.report.specs.declared.options.Options.{Options}
 use Rattle.report.specs.declared.report.Report.{Report}
 use Rattle.report.specs.Promises.{IsReport}
-use Rattle.joining.specs.Parts.{options_of, mode_at, last_mode, IsHonest, AreHonest, IsTrue, IsSettled, Tells}
-use Rattle.joining.specs.inner.Sums.{TellSums, IsFirstOfPart, GoesOnAt}
+use Rattle.parts.specs.declared.part.Part.{Part}
+use Rattle.runner.specs.Levels.{IsModeOf, GoesOn, HasPassed, IsOfProgram}
+use Rattle.joining.specs.Parts.{options_of, mode_at, last_mode, prefixes_for, IsHonest, AreHonest}
+use Rattle.joining.specs.Parts.{IsTrue, IsSettled, Tells, AreTold, GoesOnAt, ComesTo, sum_told}
 
--- the cover at each mode that the search comes to
+-- the modes and bounds that the search comes to
+
+pub mode_lower : (search : Search) (a b : ℕ) → a ≤ b → IsModeOf search (Bounded b) →
+    IsModeOf search (Bounded a)
+mode_lower (UpTo last) a b le h = (let l : b ≤ last = h in omega (arith, le, l))
+mode_lower Unbounded a b le h = absurd h
+
+comes_lower : (p : Program) (search : Search) (parts : List Part) (a b : ℕ) → a ≤ b →
+    ComesTo p search parts (Some b) → ComesTo p search parts (Some a)
+comes_lower p search parts a b le h = record {
+  of = mode_lower search a b le h.of;
+  on = λ c l. h.on c (omega (arith, l, le));
+}
 
 cover_at : (search : Search) (bound : Option ℕ) (p : Program) (items : List ItemView) →
     IsModeOf search (mode_at bound) → IsCover (last_mode search) (root_of p) items →
@@ -41,76 +52,111 @@ cover_at (UpTo last) None p items of h = absurd of
 cover_at Unbounded (Some bound) p items of h = absurd of
 cover_at Unbounded None p items of h = h
 
-under_at : (mode : Mode) (p : Program) (items : List ItemView) (k : ℕ) (d : ItemView)
-    (x : Part) → k < length items → IsCover mode (root_of p) items →
-    x.under.items ≡ (get_or items k d).prefix → IsUnder mode p x.under.items (get_or items k d)
-under_at mode p items k d x l h e = record {
-  is = sym e;
-  below = h.below k d l;
-  own = h.own k d l;
-}
-
--- what a part tells of an item at a bound, if it is honest, is the item's sum there
-told_is : (p : Program) (items : List ItemView) (k : ℕ) (d : ItemView) (x : Part)
-    (bound : Option ℕ) → k < length items → IsHonest p x → Tells (get_or items k d).prefix bound x →
-    IsCover (mode_at bound) (root_of p) items →
-    x.level.summary ≡ item_sum (mode_at bound) (get_or items k d)
-told_is p items k d x bound l honest t cover = go t.bound
+-- what a part tells of an item at a bound that the search comes to is the item's sum there
+told_is : (p : Program) (search : Search) (parts : List Part) (bound : Option ℕ) (i : ItemView)
+    (x : Part) → AreHonest p search parts → ComesTo p search parts bound →
+    ((b : Option ℕ) → IsModeOf search (mode_at b) → IsUnder (mode_at b) p i.prefix i) →
+    Contains parts x → Tells i.prefix bound x → x.level.summary ≡ item_sum (mode_at bound) i
+told_is p search parts bound i x honest comes under m t = go t.bound
   where
-    i : ItemView
-    i = get_or items k d
+    own : (b : Option ℕ) → x.level.bound ≡ b → ComesTo p search parts b →
+        x.level.summary ≡ item_sum (mode_at b) i
+    own b e c =
+        subst (λ o. IsUnder (mode_at o) p x.under.items i →
+        x.level.summary ≡ item_sum (mode_at o) i) e
+        (All-contains (λ (y : Part). ComesTo p search parts y.level.bound → IsHonest p y) parts x
+        honest m (subst (ComesTo p search parts) (sym e) c) t.whole i)
+        (subst (λ w. IsUnder (mode_at b) p w i) (sym t.under) (under b c.of))
 
     go : (x.level.bound ≡ bound) ⊎ IsSettled bound x.level →
         x.level.summary ≡ item_sum (mode_at bound) i
-    go (inl e) =
-        subst (λ b. IsUnder (mode_at b) p x.under.items i →
-        x.level.summary ≡ item_sum (mode_at b) i) e (honest t.whole i)
-        (under_at (mode_at bound) p items k d x l cover t.under)
+    go (inl e) = own bound e comes
     go (inr s) =
-        let at_later : IsCover (Bounded s.later) (root_of p) items =
-        subst (λ b. IsCover (mode_at b) (root_of p) items) s.greater cover in
         let at_own : x.level.summary ≡ item_sum (Bounded s.at) i =
-        subst (λ b. IsUnder (mode_at b) p x.under.items i →
-        x.level.summary ≡ item_sum (mode_at b) i) s.is (honest t.whole i)
-        (under_at (Bounded s.at) p items k d x l
-        (same_cover s.later s.at (root_of p) items at_later) t.under) in
+        own (Some s.at) s.is (comes_lower p search parts s.at s.later s.least
+        (subst (ComesTo p search parts) s.greater comes)) in
         let stays : item_sum (Bounded s.later) i ≡ item_sum (Bounded s.at) i =
         settled_sum i s.at s.later s.least
         (ap (λ (t : SummaryView). t.beyond) (sym at_own) ∙ s.beyond) in
         at_own ∙ (sym stays ∙ ap (λ b. item_sum (mode_at b) i) (sym s.greater))
 
-pub honest_tell : (search : Search) (bound : Option ℕ) (p : Program) (prefixes : List (List ℕ))
-    (parts : List Part) (items : List ItemView) → IsModeOf search (mode_at bound) →
-    IsCoverBy (last_mode search) p prefixes items → AreHonest p parts →
-    TellSums bound parts items
-honest_tell search bound p prefixes parts items of h honest k d l x m t =
-    told_is p items k d x bound l (All-contains (IsHonest p) parts x honest m) t
-    (cover_at search bound p items of h.cover)
+-- a part that tells what is under an item's prefix
+abbrev TellsOf : List Part → Option ℕ → ItemView → Part → Type 0
+TellsOf parts bound i x = Contains parts x × Tells i.prefix bound x
 
-pub told_whole : (search : Search) (bound : Option ℕ) (p : Program) (prefixes : List (List ℕ))
-    (items : List ItemView) (sum : SummaryView) → IsModeOf search (mode_at bound) →
-    IsCoverBy (last_mode search) p prefixes items → sum ≡ item_sums (mode_at bound) items →
-    sum ≡ whole p (mode_at bound)
-told_whole search bound p prefixes items sum of h e =
-    e ∙ sym (cover_sum (mode_at bound) (root_of p) items (cover_at search bound p items of h.cover))
+told_sums : (mode : Mode) (parts : List Part) (bound : Option ℕ) (items : List ItemView)
+    (told : List Part) →
+    All (λ i. (x : Part) → TellsOf parts bound i x → x.level.summary ≡ item_sum mode i) items →
+    AllZip (TellsOf parts bound) items told → sum_told told ≡ item_sums mode items
+told_sums mode parts bound [] [] h z = refl
+told_sums mode parts bound [] (x ∷ xs) h z = absurd z
+told_sums mode parts bound (i ∷ is) [] h z = absurd z
+told_sums mode parts bound (i ∷ is) (x ∷ xs) h z = λ k. join
+    (All-head (λ i. (x : Part) → TellsOf parts bound i x → x.level.summary ≡ item_sum mode i) i is h
+    x z.0 k)
+    (told_sums mode parts bound is xs (All-tail (λ i. (x : Part) → TellsOf parts bound i x →
+    x.level.summary ≡ item_sum mode i) i is h) z.1 k)
+
+told_whole : (p : Program) (search : Search) (parts : List Part) (bound : Option ℕ)
+    (items : List ItemView) (sum : SummaryView) → AreHonest p search parts →
+    ComesTo p search parts bound →
+    IsCoverBy (last_mode search) p (prefixes_for search parts) items →
+    AreTold parts bound items sum → sum ≡ whole p (mode_at bound)
+told_whole p search parts bound items sum honest comes h t =
+    let at : (b : Option ℕ) → IsModeOf search (mode_at b) →
+    IsCover (mode_at b) (root_of p) items =
+    λ b of. cover_at search b p items of h.cover in
+    t.is
+    ∙ (told_sums (mode_at bound) parts bound items t.told
+    (λ k d l x tells. told_is p search parts bound (get_or items k d) x honest comes
+    (λ b of. record { is = refl; below = (at b of).below k d l; own = (at b of).own k d l })
+    tells.0 tells.1) t.each
+    ∙ sym (cover_sum (mode_at bound) (root_of p) items (at bound comes.of)))
+
+passed : (p : Program) (search : Search) (parts : List Part) (bound : Option ℕ) →
+    AreHonest p search parts → ComesTo p search parts bound →
+    HasPassed (root_of p) (mode_at bound)
+passed p search parts None honest comes = tt
+passed p search parts (Some b) honest comes = λ a l.
+    let on = comes.on a l in
+    let is = told_whole p search parts (Some a) on.items on.sum honest
+    (comes_lower p search parts a b (omega (arith, l)) comes) on.cover on.told in
+    record {
+      none = ap (λ (t : SummaryView). t.first_bad) (sym is) ∙ on.on.none;
+      beyond = ap (λ (t : SummaryView). t.beyond) (sym is) ∙ on.on.beyond;
+    }
 
 -- the loop over the items
 
-sums_push : (mode : Mode) (is : List ItemView) (i : ItemView) →
-    item_sums mode (is ++ i ∷ []) ≡ join (item_sums mode is) (item_sum mode i)
-sums_push mode [] i = join_comm (item_sum mode i) nothing
-sums_push mode (x ∷ xs) i =
-    ap (join (item_sum mode x)) (sums_push mode xs i)
-    ∙ sym (join_assoc (item_sum mode x) (item_sums mode xs) (item_sum mode i))
+sum_push : (xs : List Part) (x : Part) →
+    sum_told (xs ++ x ∷ []) ≡ join (sum_told xs) x.level.summary
+sum_push [] x = join_comm x.level.summary nothing
+sum_push (y ∷ ys) x =
+    ap (join y.level.summary) (sum_push ys x)
+    ∙ sym (join_assoc y.level.summary (sum_told ys) x.level.summary)
 
-pub sums_more : (mode : Mode) (items : List ItemView) (k : ℕ) (d : ItemView)
-    (old new told : SummaryView) → k < length items → old ≡ item_sums mode (take k items) →
-    told ≡ item_sum mode (get_or items k d) → new ≡ join old told →
-    new ≡ item_sums mode (take (k + 1) items)
-sums_more mode items k d old new told l before is made =
-    made ∙ ((λ n. join (before n) (is n))
-    ∙ (sym (sums_push mode (take k items) (get_or items k d))
-    ∙ ap (item_sums mode) (sym (take_more items k d l))))
+pub told_none : (parts : List Part) (bound : Option ℕ) (sum : SummaryView) → sum ≡ nothing →
+    AreTold parts bound [] sum
+told_none parts bound sum e = record { told = []; each = tt; is = e }
+
+zip_push : {A B : Type 0} (R : A → B → Type 0) (xs : List A) (ys : List B) (x : A) (y : B) →
+    AllZip R xs ys → R x y → AllZip R (xs ++ x ∷ []) (ys ++ y ∷ [])
+zip_push R [] [] x y h r = (r, tt)
+zip_push R [] (v ∷ vs) x y h r = absurd h
+zip_push R (u ∷ us) [] x y h r = absurd h
+zip_push R (u ∷ us) (v ∷ vs) x y h r = (h.0, zip_push R us vs x y h.1 r)
+
+pub told_more : (parts : List Part) (bound : Option ℕ) (items : List ItemView) (k : ℕ)
+    (i : ItemView) (x : Part) (old new : SummaryView) → k < length items → i ≡ get_or items k i →
+    AreTold parts bound (take k items) old → Contains parts x → Tells i.prefix bound x →
+    new ≡ join old x.level.summary → AreTold parts bound (take (k + 1) items) new
+told_more parts bound items k i x old new l is before m tells made = record {
+  told = before.told ++ x ∷ [];
+  each = subst (λ xs. AllZip (TellsOf parts bound) xs (before.told ++ x ∷ []))
+      (ap (λ y. take k items ++ y ∷ []) is ∙ sym (take_more items k i l))
+      (zip_push (TellsOf parts bound) (take k items) before.told i x before.each (m, tells));
+  is = made ∙ (ap (λ s. join s x.level.summary) before.is ∙ sym (sum_push before.told x));
+}
 
 lesser_one : (u v : Option (List ℕ)) (w : List ℕ) → lesser u v ≡ Some w →
     (u ≡ Some w) ⊎ (v ≡ Some w)
@@ -122,44 +168,27 @@ lesser_one (Some x) (Some y) w e = go (precedes y x) e
     go true k = inr k
     go false k = inl k
 
-pub first_none : (parts : List Part) (sum : SummaryView) → sum ≡ nothing → IsFirstOfPart parts sum
-first_none parts sum e w h =
-    (let f : None ≡ Some w = ap (λ (t : SummaryView). t.first_bad) (sym e) ∙ h in absurd (cc))
-
-pub first_more : (parts : List Part) (old new : SummaryView) (x : Part) →
-    IsFirstOfPart parts old → Contains parts x → new ≡ join old x.level.summary →
-    IsFirstOfPart parts new
-first_more parts old new x before m made w e =
-    elim (lesser_one old.first_bad x.level.summary.first_bad w
-    (sym (join_first_bad old x.level.summary)
-    ∙ (ap (λ (t : SummaryView). t.first_bad) (sym made) ∙ e))) [
-      | inl k ↦ before w k
-      | inr k ↦ (x, m, k)
+-- the first bad schedule of what is told is that of a part
+told_first : (parts : List Part) (bound : Option ℕ) (items : List ItemView) (told : List Part)
+    (w : List ℕ) → AllZip (TellsOf parts bound) items told →
+    (sum_told told).first_bad ≡ Some w →
+    (x : Part) × Contains parts x × (x.level.summary.first_bad ≡ Some w)
+told_first parts bound items [] w z e = (let f : None ≡ Some w = e in absurd (cc))
+told_first parts bound [] (x ∷ xs) w z e = absurd z
+told_first parts bound (i ∷ is) (x ∷ xs) w z e =
+    elim (lesser_one x.level.summary.first_bad (sum_told xs).first_bad w
+    (sym (join_first_bad x.level.summary (sum_told xs)) ∙ e)) [
+      | inl k ↦ (x, z.0.0, k)
+      | inr k ↦ told_first parts bound is xs w z.1 k
     ]
 
-pub first_of_program : (p : Program) (parts : List Part) (sum : SummaryView) →
-    All (IsTrue p) parts → IsFirstOfPart parts sum → IsOfProgram p sum.first_bad
-first_of_program p parts sum all h w e =
-    let one = h w e in
+pub first_of_program : (p : Program) (parts : List Part) (bound : Option ℕ)
+    (items : List ItemView) (sum : SummaryView) → All (IsTrue p) parts →
+    AreTold parts bound items sum → IsOfProgram p sum.first_bad
+first_of_program p parts bound items sum all t w e =
+    let one = told_first parts bound items t.told w t.each
+    (ap (λ (s : SummaryView). s.first_bad) (sym t.is) ∙ e) in
     (All-contains (IsTrue p) parts one.0 all one.1 w one.2).bad.0
-
--- the loop over the bounds
-
-pub passed_more : (search : Search) (p : Program) (bound : ℕ) (premise : Type 0) →
-    (premise → HasPassed (root_of p) (Bounded bound)) → GoesOnAt search (Some bound) premise p →
-    premise → HasPassed (root_of p) (Bounded (bound + 1))
-passed_more search p bound premise before on h b l = go (cases_order b bound)
-  where
-    here : IsPassed (root_of p) bound
-    here = record {
-      none = ap (λ (t : SummaryView). t.first_bad) (sym (on.all h)) ∙ on.on.none;
-      beyond = ap (λ (t : SummaryView). t.beyond) (sym (on.all h)) ∙ on.on.beyond;
-    }
-
-    go : (b ≡ bound) ⊎ ((b < bound) ⊎ (bound < b)) → IsPassed (root_of p) b
-    go (inl same) = subst (IsPassed (root_of p)) (sym same) here
-    go (inr (inl less)) = before h b less
-    go (inr (inr more)) = absurd (omega (arith, more, l))
 
 -- the report
 
@@ -171,36 +200,31 @@ items_listed mode p prefixes items h k d l =
     (in_contains (map (λ (i : ItemView). i.prefix) items) (get_or items k d).prefix
     (in_map (λ (i : ItemView). i.prefix) items (get_or items k d) (at_in items k d l)))
 
-pub report_means : (search : Search) (bound : Option ℕ) (p : Program)
-    (prefixes : List (List ℕ)) (parts : List Part) (items : List ItemView) (o : Options)
-    (mode : Mode) (sum : SummaryView) (r : Option Report) → IsModeOf search (mode_at bound) →
-    IsCoverBy (last_mode search) p prefixes items → o ≡ options_of search →
-    mode ≡ mode_at bound →
-    (TellSums bound parts items → sum ≡ item_sums (mode_at bound) items) →
+pub report_means : (p : Program) (search : Search) (parts : List Part) (bound : Option ℕ)
+    (items : List ItemView) (o : Options) (mode : Mode) (sum : SummaryView) (r : Option Report) →
+    ComesTo p search parts bound →
+    IsCoverBy (last_mode search) p (prefixes_for search parts) items →
+    AreTold parts bound items sum → o ≡ options_of search → mode ≡ mode_at bound →
     IfSome r (λ x. HasPassed (root_of p) mode → sum ≡ whole p mode → IsReport false p o x) →
-    IfSome r (λ x. AreHonest p parts → HasPassed (root_of p) (mode_at bound) →
-    IsReport false p (options_of search) x)
-report_means search bound p prefixes parts items o mode sum None of h same at told means = tt
-report_means search bound p prefixes parts items o mode sum (Some x) of h same at told means =
-    λ honest passed.
+    IfSome r (λ x. AreHonest p search parts → IsReport false p (options_of search) x)
+report_means p search parts bound items o mode sum None comes h t same at means = tt
+report_means p search parts bound items o mode sum (Some x) comes h t same at means = λ honest.
     subst (λ u. IsReport false p u x) same
-    (means (subst (HasPassed (root_of p)) (sym at) passed)
-    (subst (λ m. sum ≡ whole p m) (sym at) (told_whole search bound p prefixes items sum of h
-    (told (honest_tell search bound p prefixes parts items of h honest)))))
+    (means (subst (HasPassed (root_of p)) (sym at) (passed p search parts bound honest comes))
+    (told_whole p search parts bound items sum honest comes h t
+    ∙ ap (λ m. whole p m) (sym at)))
 
-pub none_means : (search : Search) (bound : Option ℕ) (p : Program)
-    (prefixes : List (List ℕ)) (parts : List Part) (items : List ItemView) (o : Options)
-    (mode : Mode) (sum : SummaryView) (r : Option Report) → IsModeOf search (mode_at bound) →
-    IsCoverBy (last_mode search) p prefixes items → o ≡ options_of search →
-    mode ≡ mode_at bound →
-    (TellSums bound parts items → sum ≡ item_sums (mode_at bound) items) →
-    IfNone r (GoesOn o.search mode sum) →
-    IfNone r (GoesOnAt search bound (AreHonest p parts) p)
-none_means search bound p prefixes parts items o mode sum None of h same at told on = record {
+pub none_means : (p : Program) (search : Search) (parts : List Part) (bound : Option ℕ)
+    (items : List ItemView) (o : Options) (mode : Mode) (sum : SummaryView) (r : Option Report) →
+    IsCoverBy (last_mode search) p (prefixes_for search parts) items →
+    AreTold parts bound items sum → o ≡ options_of search → mode ≡ mode_at bound →
+    IfNone r (GoesOn o.search mode sum) → IfNone r (GoesOnAt p search parts bound)
+none_means p search parts bound items o mode sum None h t same at on = record {
+  items = items;
+  cover = h;
   sum = sum;
+  told = t;
   on = subst (λ m. GoesOn search m sum) at
       (subst (λ (u : Options). GoesOn u.search mode sum) same on);
-  all = λ honest. told_whole search bound p prefixes items sum of h
-      (told (honest_tell search bound p prefixes parts items of h honest));
 }
-none_means search bound p prefixes parts items o mode sum (Some x) of h same at told on = tt
+none_means p search parts bound items o mode sum (Some x) h t same at on = tt

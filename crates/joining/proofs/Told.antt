@@ -15,7 +15,7 @@ use Rattle.replay.proofs.FirstBadPlace.{first_bad_fails}
 use Rattle.parts.specs.declared.part.Part.{Part}
 use Rattle.report.specs.Reports.{IsBadSchedule}
 use Rattle.joining.specs.Parts.{IsTrue, IsWithinBound}
-use Rattle.joining.specs.inner.Sums.{is_bad_end, is_within_bound, is_bad_run}
+use Rattle.joining.specs.inner.Runs.{is_bad_end, is_within_bound, is_bad_run}
 
 few : (p : Program) (bound : Option ℕ) (w : List ℕ) →
     is_within_bound bound (preemptions p w) ≡ true → IsWithinBound p bound w

@@ -1,3 +1,4 @@
 pub mod Parts
+pub mod Found
 pub mod ErrorTexts
 pub mod inner

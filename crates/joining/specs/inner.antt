@@ -1,4 +1,4 @@
 -- What the proofs put between the code and the definitions. Only contracts of private functions
 -- cite it, so nobody has to believe it.
 pub mod Lines
-pub mod Sums
+pub mod Runs

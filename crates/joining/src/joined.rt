@@ -2,14 +2,14 @@
 
 ghost use Rattle.std.specs.Prelude.{◌≡◌, false, IfOk, IfErr, IfSome, IfNone, All, Contains, map};
 ghost use Rattle.std.specs.Arc.{arc_value};
-ghost use Rattle.items.specs.Items.{root_of, item_sums};
 ghost use Rattle.cover.specs.CoverBy.{IsCoverBy};
 ghost use Rattle.report.specs.Promises.{IsReport};
 ghost use Rattle.report.specs.declared.options.Search.{Search};
-ghost use Rattle.runner.specs.Levels.{IsModeOf, IsLast, HasPassed};
+ghost use Rattle.runner.specs.Levels.{IsModeOf, IsLast};
 ghost use Rattle.guest_code.specs.Program.{Program};
-ghost use Rattle.joining.specs.Parts.{AreHonest, AreApart, IsTrue, Tells, JoinErrorMeans, prefixes_for, last_mode, mode_at, options_of};
-ghost use Rattle.joining.specs.inner.Sums.{TellSums, IsFirstOfPart, GoesOnAt};
+ghost use Rattle.joining.specs.Parts.{AreHonest, AreTested, IsTrue, IsLacking, JoinErrorMeans};
+ghost use Rattle.joining.specs.Parts.{AreTold, GoesOnAt, ComesTo, Tells};
+ghost use Rattle.joining.specs.Parts.{prefixes_for, last_mode, mode_at, options_of};
 
 use crate::bad_schedules::check_schedules;
 use crate::by_prefix::{PartsByPrefix, any_cut_short};
@@ -35,13 +35,16 @@ struct Joining<'a, 'p> {
     items: &'a [Item],
 }
 
-/// The report of a search of the program, from parts of the search: where each part that wasn't cut
-/// short has the summary of all that is under its prefix at its bound, the report is one that a
-/// search of the whole program may give. That the parts are of this program isn't tested: the
-/// guests that they name aren't looked at. A part where nothing is beyond its bound and nothing is
-/// bad stands for each greater bound, too; the summary of a part that was cut short isn't joined.
-/// Where two parts of one prefix and bound that weren't cut short have different summaries, all are
-/// refused, even if the report needs neither.
+/// The report of a search of the program, from parts of the search: where each part of a bound that
+/// the search comes to, if it wasn't cut short, has the summary of all that is under its prefix at
+/// its bound, the report is one that a search of the whole program may give. That the parts are of
+/// this program isn't tested: the guests that they name aren't looked at. A part where nothing is
+/// beyond its bound and nothing is bad stands for each greater bound, too; the summary of a part
+/// that was cut short isn't joined.
+///
+/// All parts are tested, also those that the report doesn't need: each schedule that one names has
+/// to be bad, to begin with the part's prefix and to be within its bound, and where two of one
+/// prefix and bound weren't cut short their summaries have to be equal.
 ///
 /// # Errors
 ///
@@ -52,20 +55,19 @@ pub fn join(
     search: Search,
     parts: &[Part],
 ) -> Result<Report, JoinError>
-    ensures report { IfOk result (λ r. AreHonest (arc_value program.now) parts.now →
+    ensures report { IfOk result (λ r. AreHonest (arc_value program.now) search parts.now →
         IsReport false (arc_value program.now) (options_of search) r) }
-    ensures agree { IfOk result (λ _. (place : PartPlace) → AreApart parts.now place → ⊥) }
+    ensures tested { IfOk result (λ _. AreTested (arc_value program.now) search parts.now) }
     ensures error { IfErr result (JoinErrorMeans (arc_value program.now) search parts.now) }
 {
     check_schedules(alloc, program, parts)?;
     let by_prefix = PartsByPrefix::new(alloc, parts)?;
     by_prefix.check_agreement(alloc)?;
-    let last = last_bound(search);
     let prefixes = prefixes_for(alloc, search, parts)?;
     let items = cover_by(
         alloc,
         Arc::try_clone(program)?,
-        mode_of(last),
+        last_mode(search),
         prefixes.as_slice(),
     )?;
     let joining = Joining {
@@ -74,18 +76,7 @@ pub fn join(
         parts: &by_prefix,
         items: items.as_slice(),
     };
-    if let Some(last) = last {
-        for bound in 0..last {
-            if let Some(report) = joining.report_at(alloc, Some(bound))? {
-                return Ok(report);
-            }
-        }
-    }
-    // A search goes on to no bound after its last, and one without a bound to none at all.
-    match joining.report_at(alloc, last)? {
-        Some(report) => Ok(report),
-        None => unreachable!(),
-    }
+    joining.report(alloc)
 }
 
 // The prefixes of the parts that a search can use, in the parts' order: those with a bound where
@@ -107,20 +98,47 @@ fn prefixes_for<'a>(
 }
 
 impl Joining<'_, '_> {
-    // The report of the search, if it ends at this bound: the bound is its last, or a schedule is
-    // bad, or none is beyond the bound. `None` where the search goes on to the next bound. An error
-    // where no part says what is under an item's prefix at this bound.
+    // The report of the search. An error where it comes to a bound at which no part says what is
+    // under an item's prefix.
+    fn report(&self, alloc: Global) -> Result<Report, JoinError>
+        requires schedules { All (IsTrue self.now.program.now) self.now.parts.now.parts.now }
+        requires items { IsCoverBy (last_mode self.now.search) self.now.program.now
+            (prefixes_for self.now.search self.now.parts.now.parts.now) self.now.items.now }
+        ensures report { IfOk result (λ r.
+            AreHonest self.now.program.now self.now.search self.now.parts.now.parts.now →
+            IsReport false self.now.program.now (options_of self.now.search) r) }
+        ensures error { IfErr result
+            (JoinErrorMeans self.now.program.now self.now.search self.now.parts.now.parts.now) }
+    {
+        let last = last_bound(self.search);
+        if let Some(last) = last {
+            for bound in 0..last {
+                if let Some(report) = self.report_at(alloc, Some(bound))? {
+                    return Ok(report);
+                }
+            }
+        }
+        // A search goes on to no bound after its last, and one without a bound to none at all.
+        match self.report_at(alloc, last)? {
+            Some(report) => Ok(report),
+            None => unreachable!(),
+        }
+    }
+
+    // The report of the search, if it ends at this bound, to which it comes: the bound is its last,
+    // or a schedule is bad, or none is beyond the bound. `None` where the search goes on to the next
+    // bound. An error where no part says what is under an item's prefix at this bound.
     fn report_at(&self, alloc: Global, bound: Option<u32>) -> Result<Option<Report>, JoinError>
-        requires of { IsModeOf self.now.search (mode_at bound) }
+        requires comes { ComesTo self.now.program.now self.now.search
+            self.now.parts.now.parts.now bound }
         requires schedules { All (IsTrue self.now.program.now) self.now.parts.now.parts.now }
         requires items { IsCoverBy (last_mode self.now.search) self.now.program.now
             (prefixes_for self.now.search self.now.parts.now.parts.now) self.now.items.now }
         ensures some { IfOk result (λ o. IfSome o (λ r.
-            AreHonest self.now.program.now self.now.parts.now.parts.now →
-            HasPassed (root_of self.now.program.now) (mode_at bound) →
+            AreHonest self.now.program.now self.now.search self.now.parts.now.parts.now →
             IsReport false self.now.program.now (options_of self.now.search) r)) }
-        ensures none { IfOk result (λ o. IfNone o (GoesOnAt self.now.search bound
-            (AreHonest self.now.program.now self.now.parts.now.parts.now) self.now.program.now)) }
+        ensures none { IfOk result (λ o. IfNone o (GoesOnAt self.now.program.now self.now.search
+            self.now.parts.now.parts.now bound)) }
         ensures error { IfErr result
             (JoinErrorMeans self.now.program.now self.now.search self.now.parts.now.parts.now) }
     {
@@ -132,18 +150,19 @@ impl Joining<'_, '_> {
         }
     }
 
-    // The summary of the whole program at a bound: the summaries of the parts for the items'
-    // prefixes, joined. An error where no part says what is under one of the prefixes.
+    // The summary of the whole program at a bound to which the search comes: the summaries of the
+    // parts for the items' prefixes, joined. An error where no part says what is under one of the
+    // prefixes.
     fn sum_at(&self, alloc: Global, bound: Option<u32>) -> Result<Summary, JoinError>
-        requires of { IsModeOf self.now.search (mode_at bound) }
+        requires comes { ComesTo self.now.program.now self.now.search
+            self.now.parts.now.parts.now bound }
         requires listed { All (λ i. Contains
             (prefixes_for self.now.search self.now.parts.now.parts.now) i.prefix)
             self.now.items.now }
-        ensures sum { TellSums bound self.now.parts.now.parts.now self.now.items.now →
-            IfOk result (λ s. s ≡ item_sums (mode_at bound) self.now.items.now) }
-        ensures first { IfOk result (IsFirstOfPart self.now.parts.now.parts.now) }
-        ensures error { (p : Program) →
-            IfErr result (JoinErrorMeans p self.now.search self.now.parts.now.parts.now) }
+        ensures told { IfOk result
+            (AreTold self.now.parts.now.parts.now bound self.now.items.now) }
+        ensures error { IfErr result
+            (JoinErrorMeans self.now.program.now self.now.search self.now.parts.now.parts.now) }
     {
         let mut sum = Summary::empty(alloc);
         for item in self.items {
@@ -153,17 +172,18 @@ impl Joining<'_, '_> {
         Ok(sum)
     }
 
-    // The first part that says what is under an item's prefix at a bound, and wasn't cut short.
-    // Where there is none, the error `Cut` if a part of this prefix and bound was cut short, else
-    // `Lacks`.
+    // The first part that says what is under an item's prefix at a bound to which the search comes,
+    // and wasn't cut short. Where there is none, the error `Cut` if a part of this prefix and bound
+    // was cut short, else `Lacks`.
     fn part_for(&self, alloc: Global, item: &Item, bound: Option<u32>) -> Result<&Part, JoinError>
-        requires of { IsModeOf self.now.search (mode_at bound) }
+        requires comes { ComesTo self.now.program.now self.now.search
+            self.now.parts.now.parts.now bound }
         requires listed { Contains (prefixes_for self.now.search self.now.parts.now.parts.now)
             item.now.prefix }
         ensures part { IfOk result (λ x.
             Contains self.now.parts.now.parts.now x.now × Tells item.now.prefix bound x.now) }
-        ensures error { (p : Program) →
-            IfErr result (JoinErrorMeans p self.now.search self.now.parts.now.parts.now) }
+        ensures error { IfErr result
+            (JoinErrorMeans self.now.program.now self.now.search self.now.parts.now.parts.now) }
     {
         let Some(part) = self.parts.part_at(item.prefix(), bound) else {
             return Err(no_part_error(alloc, self.parts.parts, item.prefix(), bound)?);
@@ -180,9 +200,7 @@ fn no_part_error(
     prefix: &[u8],
     bound: Option<u32>,
 ) -> Result<JoinError, AllocError>
-    ensures { (p : Program) (search : Search) → IsModeOf search (mode_at bound) →
-        Contains (prefixes_for search parts.now) prefix.now →
-        All (λ x. Tells prefix.now bound x → ⊥) parts.now →
+    ensures { (p : Program) (search : Search) → IsLacking p search parts.now prefix.now bound →
         IfOk result (JoinErrorMeans p search parts.now) }
 {
     let place = PartPlace {
@@ -216,4 +234,11 @@ fn last_bound(search: Search) -> Option<u32>
         Search::UpTo(last) => Some(last),
         Search::Unbounded => None,
     }
+}
+
+/// The last mode of a search: that of its bound, or the one with sleep sets where it has none.
+pub fn last_mode(search: Search) -> Mode
+    ensures { result ≡ last_mode search }
+{
+    mode_of(last_bound(search))
 }

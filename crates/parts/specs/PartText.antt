@@ -14,6 +14,7 @@ use Rattle.hex.specs.Hex.{encode_lower, IsBytes}
 use Rattle.sha2.specs.Sha256.{sha256}
 use Rattle.parts.specs.declared.guest.GuestDigest.{GuestDigest}
 use Rattle.parts.specs.declared.part.Part.{Part}
+use Rattle.parts.specs.declared.part.TheConstants.{VERSION}
 
 -- the guest of a text
 abbrev pub guest_of : List ℕ → GuestDigest
@@ -27,6 +28,10 @@ pub record PartView : Type 0 where
 
 abbrev pub part_view : Part → PartView
 part_view x = record { under = x.under.items; level = x.level; guest = x.guest }
+
+-- the part is of the guest with this text
+abbrev pub IsOfText : List ℕ → Part → Type 0
+IsOfText text x = x.guest ≡ guest_of text
 
 -- ---- the text
 
@@ -53,7 +58,8 @@ part_data x = object
     (member (codes "schedule") (first_bad_data x.level.summary.first_bad)
     (member (codes "stuck") (count_data x.level.summary.stuck)
     (member (codes "tried") (count_data x.level.summary.tried)
-    (member (codes "under") (schedule_data x.under) no_members))))))))))
+    (member (codes "under") (schedule_data x.under)
+    (member (codes "version") (count_data VERSION) no_members)))))))))))
 
 -- with no space
 abbrev pub part_text : PartView → List ℕ

@@ -3,6 +3,7 @@
 ghost use Rattle.std.specs.Prelude.{◌≡◌};
 ghost use Rattle.parts.specs.declared.error.PartError.TheVariants.{OutOfMemory};
 
+use crate::part::VERSION;
 use std::alloc::{AllocError, AllocFailed};
 use std::fmt;
 use thiserror::Error;
@@ -12,6 +13,8 @@ use thiserror::Error;
 pub enum PartError {
     /// The line isn't JSON.
     NotJson,
+    /// The line is of this version, and parts are of [`VERSION`].
+    OtherVersion(u64),
     /// The JSON is no object, or an object without this key.
     Missing(&'static str),
     /// The value of this key isn't what it has to be.
@@ -41,6 +44,9 @@ impl fmt::Display for PartError {
     fn fmt<W: fmt::Write>(&self, f: &mut fmt::Formatter<W>) -> fmt::Result {
         match self {
             PartError::NotJson => write!(f, "no JSON"),
+            PartError::OtherVersion(version) => {
+                write!(f, "parts are of version {VERSION}, not {version}")
+            }
             PartError::Missing(key) => write!(f, "no key {key}"),
             PartError::Wrong { key, wanted } => write!(f, "{key} is not {wanted}"),
             PartError::Inconsistent => write!(

@@ -1,8 +1,9 @@
 //! The length and the digest that tell a guest's text from others.
 
-ghost use Rattle.std.specs.Prelude.{◌≡◌};
-ghost use Rattle.parts.specs.PartText.{guest_of};
+ghost use Rattle.std.specs.Prelude.{◌≡◌, All, Contains, IfSome, IfNone};
+ghost use Rattle.parts.specs.PartText.{guest_of, IsOfText};
 
+use crate::part::Part;
 use sha2::{Digest, Sha256};
 
 /// A guest's text by its length and its digest: texts that are equal in both are taken for the
@@ -25,4 +26,19 @@ impl GuestDigest {
             sha256: Sha256::digest(text),
         }
     }
+}
+
+/// The first of the parts that isn't of the guest with this text; `None` where all are of it.
+pub fn first_of_another<'a>(parts: &'a [Part], text: &[u8]) -> Option<&'a Part>
+    ensures some { IfSome result (λ x.
+        Contains parts.now x.now × (IsOfText text.now x.now → ⊥)) }
+    ensures none { IfNone result (All (IsOfText text.now) parts.now) }
+{
+    let guest = GuestDigest::of_text(text);
+    for part in parts {
+        if part.guest != guest {
+            return Some(part);
+        }
+    }
+    None
 }

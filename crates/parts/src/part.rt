@@ -3,6 +3,10 @@
 use crate::guest::GuestDigest;
 use report::Level;
 
+/// The version of lines of parts and of the guest language, which each line names: one more where
+/// either changes, so that parts of two versions are never joined.
+pub const VERSION: u64 = 1;
+
 /// What a search under a prefix found at one bound.
 #[derive(Drop)]
 pub struct Part {

@@ -5,7 +5,7 @@ ghost use Rattle.serde_json.specs.View.{view};
 ghost use Rattle.parts.specs.PartText.{IsLineOf, guest_data, part_data, part_text, part_view};
 
 use crate::guest::GuestDigest;
-use crate::part::Part;
+use crate::part::{Part, VERSION};
 use report::{bound_value, cause_value, ends_value, first_bad_value, schedule_value};
 use serde_json::{Map, Value, put};
 use std::alloc::{AllocError, Global};
@@ -55,6 +55,7 @@ fn part_value(alloc: Global, part: &Part) -> Result<Value, AllocError>
         "under",
         schedule_value(alloc, part.under.as_slice())?,
     )?;
+    put(&mut members, alloc, "version", Value::from(VERSION))?;
     Ok(Value::Object(members))
 }
 

@@ -19,7 +19,7 @@ ghost use Rattle.parts.specs.inner.Keys.{HasLevel};
 
 use crate::error::PartError;
 use crate::guest::GuestDigest;
-use crate::part::Part;
+use crate::part::{Part, VERSION};
 use crate::printing::part_line;
 use hex::FromHex;
 use replay::laws::{a_refused_text_spells_nothing_short, the_printed_spelling_is_read_back};
@@ -42,6 +42,7 @@ pub fn part_from(alloc: Global, line: &[u8]) -> Result<Part, PartError>
         MatchResult result (λ y. part_view y ≡ x) (λ e. e ≡ OutOfMemory) }
 {
     let value = parse_json(alloc, line)?;
+    check_version(field(&value, "version")?)?;
     let part = Part {
         under: schedule_of(alloc, field(&value, "under")?, "under")?,
         level: level_of(alloc, &value)?,
@@ -77,6 +78,18 @@ fn field<'v>(object: &'v Value, key: &'static str) -> Result<&'v Value, PartErro
     match object.get(key) {
         Some(value) => Ok(value),
         None => Err(PartError::Missing(key)),
+    }
+}
+
+// Checks the value of the key `version`; `OtherVersion` where it is another count than `VERSION`.
+fn check_version(value: &Value) -> Result<(), PartError>
+    ensures { view value.now ≡ count_data VERSION → MatchResult result (λ _. Unit {0}) (λ _. ⊥) }
+{
+    let version = count_of(value, "version")?;
+    if version == VERSION {
+        Ok(())
+    } else {
+        Err(PartError::OtherVersion(version))
     }
 }
 

@@ -1,10 +1,9 @@
 -- What stands in the JSON of a part at each key.
 use Rattle.std.specs.Prelude.{◌≡◌, Some, option_map, codes}
 use Rattle.report.specs.declared.level.Level.{Level}
-use Rattle.report.specs.ReportText.{cause_data, bound_data, count_data, ends_data, schedule_data, first_bad_data}
+use Rattle.report.specs.ReportText.{cause_data, bound_data, count_data, ends_data, first_bad_data}
 use Rattle.serde_json.specs.Data.{Data, boolean}
 use Rattle.serde_json.specs.Find.{get}
-use Rattle.parts.specs.PartText.{PartView, guest_data}
 
 pub record HasLevel (l : Level) (d : Data) : Type 0 where
   pub beyond : get (codes "beyond") d ≡ Some (boolean l.summary.beyond)
@@ -15,8 +14,3 @@ pub record HasLevel (l : Level) (d : Data) : Type 0 where
   pub schedule : get (codes "schedule") d ≡ Some (first_bad_data l.summary.first_bad)
   pub stuck : get (codes "stuck") d ≡ Some (count_data l.summary.stuck)
   pub tried : get (codes "tried") d ≡ Some (count_data l.summary.tried)
-
-pub record HasPart (x : PartView) (d : Data) : Type 0 where
-  pub level : HasLevel x.level d
-  pub guest : get (codes "guest") d ≡ Some (guest_data x.guest)
-  pub under : get (codes "under") d ≡ Some (schedule_data x.under)

@@ -1,4 +1,3 @@
-use Rattle.std.proofs.lemmas.Result.{err_from_is_err_and}
 use Rattle.joining.specs.Parts.{last_mode, prefixes_for}
 use Rattle.joining.proofs.Sums.{items_listed, first_of_program, report_means, none_means}
 use Rattle.joining.proofs.joined.Joining.report_at.Goals as goal
@@ -9,30 +8,22 @@ sum_at-requires-clause-listed c =
     (prefixes_for c.args.self.now.search c.args.self.now.parts.now.parts.now)
     c.args.self.now.items.now c.requires.items
 
-pub returns-in_err-sum-clause-error : goal.returns-in_err-sum-clause-error
-returns-in_err-sum-clause-error c =
-    let p = err_from_is_err_and c.from_residual.result c.from_residual.ensures.1 in
-    rw (p.1, p.2) (c.in_err-sum.ensures.error c.args.self.now.program.now)
-
 pub report_of-requires-clause-bad : goal.report_of-requires-clause-bad
 report_of-requires-clause-bad c =
-    first_of_program c.args.self.now.program.now c.args.self.now.parts.now.parts.now c.in_ok-sum.sum
-    c.requires.schedules c.in_ok-sum.ensures.first
+    first_of_program c.args.self.now.program.now c.args.self.now.parts.now.parts.now c.args.bound
+    c.args.self.now.items.now c.in_ok-sum.sum c.requires.schedules c.in_ok-sum.ensures.told
 
 pub returns-in-Ok-clause-some : goal.returns-in-Ok-clause-some
 returns-in-Ok-clause-some c =
-    report_means c.args.self.now.search c.args.bound c.args.self.now.program.now
-    (prefixes_for c.args.self.now.search c.args.self.now.parts.now.parts.now)
-    c.args.self.now.parts.now.parts.now c.args.self.now.items.now c.new-options.result
-    c.mode_of.result c.in_ok-sum.sum c.in-Ok.report
-    c.requires.of c.requires.items c.new-options.ensures c.mode_of.ensures c.in_ok-sum.ensures.sum
+    report_means c.args.self.now.program.now c.args.self.now.search
+    c.args.self.now.parts.now.parts.now c.args.bound c.args.self.now.items.now
+    c.new-options.result c.mode_of.result c.in_ok-sum.sum c.in-Ok.report c.requires.comes
+    c.requires.items c.in_ok-sum.ensures.told c.new-options.ensures c.mode_of.ensures
     c.in-Ok.ensures.report
 
 pub returns-in-Ok-clause-none : goal.returns-in-Ok-clause-none
 returns-in-Ok-clause-none c =
-    none_means c.args.self.now.search c.args.bound c.args.self.now.program.now
-    (prefixes_for c.args.self.now.search c.args.self.now.parts.now.parts.now)
-    c.args.self.now.parts.now.parts.now c.args.self.now.items.now c.new-options.result
-    c.mode_of.result c.in_ok-sum.sum c.in-Ok.report
-    c.requires.of c.requires.items c.new-options.ensures c.mode_of.ensures c.in_ok-sum.ensures.sum
-    c.in-Ok.ensures.none
+    none_means c.args.self.now.program.now c.args.self.now.search
+    c.args.self.now.parts.now.parts.now c.args.bound c.args.self.now.items.now
+    c.new-options.result c.mode_of.result c.in_ok-sum.sum c.in-Ok.report c.requires.items
+    c.in_ok-sum.ensures.told c.new-options.ensures c.mode_of.ensures c.in-Ok.ensures.none
