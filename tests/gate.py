@@ -7,10 +7,8 @@ Each line of a part is passed on as it comes, behind the minute of the gate at w
 a part's closing line `N passed, M failed`, which stays alone, and for lines that say of one function
 or type that it is proved, which are left out. Before the last closing line there is a line on when each
 crate was proved, one on the processor time, and one on the whole. The first part that fails ends the gate,
-with its status. What `make quick` does with the documents runs beside the first proofs, which leave processors
-free, and is told of after them.
+with its status.
 """
-import atexit
 import re
 import resource
 import shutil
@@ -72,25 +70,23 @@ class Gate:
         if proved:
             self.proved_at[proved[1]] = self.minute()
 
-    def start(self, words):
-        """Starts a part, which ends with the gate."""
+    def part(self, name, words):
+        """Runs a part and answers its closing line; where it fails, the gate ends."""
+        self.say("== " + name)
         started = subprocess.Popen(words, cwd=ROOT, stdin=subprocess.DEVNULL, stdout=subprocess.PIPE,
                                    stderr=subprocess.STDOUT, text=True, errors="replace")
-        atexit.register(started.terminate)
-        return started
-
-    def part(self, name, words, started=None):
-        """Runs a part, or awaits one that was started, and answers its closing line; where it fails, the gate ends."""
-        self.say("== " + name)
-        started, closing = started or self.start(words), None
-        for line in started.stdout:
-            line = line.rstrip("\n")
-            if CLOSING.match(line):
-                closing = line
-            elif not LEFT_OUT.match(line):
-                self.count(line)
-                self.say(line)
-        status = started.wait()
+        closing = None
+        try:
+            for line in started.stdout:
+                line = line.rstrip("\n")
+                if CLOSING.match(line):
+                    closing = line
+                elif not LEFT_OUT.match(line):
+                    self.count(line)
+                    self.say(line)
+            status = started.wait()
+        finally:
+            started.terminate()
         if status:
             self.say("FAILED: " + name)
             print(closing or "0 passed, 1 failed", flush=True)
@@ -118,11 +114,9 @@ def main():
     # So that the part that runs is ended, too.
     signal.signal(signal.SIGTERM, lambda number, _: sys.exit(128 + number))
     gate = Gate()
-    started = gate.start(UNPROVED)
     gate.part("the list of wrong bodies", [sys.executable, "tests/edits.py"])
     gate.part("the budget of lines", [sys.executable, "tests/budget.py"])
     print(gate.part("proofs, wrong bodies and tests", ["rt", "ci"]), flush=True)
-    print(gate.part("shown commands, nothing proved, in a copy whose path has a space", UNPROVED, started), flush=True)
     (ROOT / "build").mkdir(exist_ok=True)
     shutil.copyfile(ROOT / "crates/ctxbound/out/ctxbound", ROOT / PROGRAM)
     (ROOT / PROGRAM).chmod(0o755)
@@ -131,6 +125,7 @@ def main():
         closing = gate.part(name, words)
         if closing:
             print(closing, flush=True)
+    print(gate.part("shown commands, nothing proved, in a copy whose path has a space", UNPROVED), flush=True)
     closing = gate.part("refused memory", [sys.executable, "tests/allocations.py", PROGRAM, TOOLS])
     for line in gate.times():
         gate.say(line)
