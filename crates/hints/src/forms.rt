@@ -14,7 +14,7 @@ pub static DECLARATIONS: [&str; 5] = [
     "`thread` is written: thread NAME { .. }",
 ];
 
-/// The same of the statements.
+/// How each statement is written.
 pub static STATEMENTS: [&str; 17] = [
     "`load` is written: load LOCAL VAR;",
     "`store` is written: store VAR VALUE;",

@@ -51,7 +51,7 @@ static STATEMENT_WORDS: [&str; 38] = [
     ";: is this `;` one too many?",
 ];
 
-// The same for words that begin a declaration or a thread, each with the keyword for it.
+// Words of other languages that begin a declaration or a thread, each with the keyword for it.
 static DECLARATION_WORDS: [&str; 6] = [
     "int let mut const static volatile atomic shared: var",
     "bool byte long unsigned auto global atomic_int: var",
