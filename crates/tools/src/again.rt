@@ -16,10 +16,24 @@ use std::process::ExitCode;
 use std::sync::Arc;
 use std::{fs, io};
 
-/// The program that a text spells; `None` if a call fails twice.
+/// The program that a text spells; a call that fails is made once more. `None` if it fails twice.
 fn program_of(alloc: Global, text: &[u8]) -> Option<Program> {
-    let tree = once_more!(parse(alloc, text))?;
-    once_more!(lower(alloc, &tree))
+    let tree = match parse(alloc, text) {
+        Ok(tree) => tree,
+        Err(_) => parse(alloc, text).ok()?,
+    };
+    match lower(alloc, &tree) {
+        Ok(program) => Some(program),
+        Err(_) => lower(alloc, &tree).ok(),
+    }
+}
+
+/// The schedule that a text spells; a call that fails is made once more. `None` if it fails twice.
+fn schedule_of(alloc: Global, text: &[u8]) -> Option<Vec<u8>> {
+    match schedule_from(alloc, text) {
+        Ok(schedule) => Some(schedule),
+        Err(_) => schedule_from(alloc, text).ok(),
+    }
 }
 
 /// Prints what the calls on a run and on a book answered, in three lines of words and numbers.
@@ -53,7 +67,7 @@ fn facts_of(
     program: &Arc<Program>,
     schedule: &str,
 ) -> Option<(RunFacts, BookFacts)> {
-    let schedule = once_more!(schedule_from(alloc, schedule.as_bytes()))?;
+    let schedule = schedule_of(alloc, schedule.as_bytes())?;
     let run = run_facts(alloc, program, schedule.as_slice())?;
     let book = book_facts(alloc, program, schedule.as_slice())?;
     Some((run, book))

@@ -9,6 +9,7 @@ use items::mode::Mode;
 use std::alloc::{AllocError, Global};
 use std::sync::Arc;
 use summary::Summary;
+use walk::walked::Walked;
 use walk::walker::walk;
 
 /// More walks than a search by hand makes.
@@ -68,6 +69,14 @@ impl BookSnapshot {
     }
 }
 
+// A book's next round, asked for once more if memory is refused; `None` if it is refused again.
+fn next_round(alloc: Global, book: &Book) -> Option<Vec<Item>> {
+    match book.round(alloc) {
+        Ok(items) => Some(items),
+        Err(_) => book.round(alloc).ok(),
+    }
+}
+
 // How many steps the prefixes of these items have together.
 fn count_steps(items: &[Item]) -> usize {
     let mut sum = 0usize;
@@ -95,19 +104,33 @@ fn deferred_items(alloc: Global, book: &Book) -> Result<Vec<Item>, AllocError> {
     Ok(items)
 }
 
+// A snapshot of a book, made once more if memory is refused; `None` if it is refused again.
+fn snapshot_of(alloc: Global, book: &Book, program: &Program) -> Option<BookSnapshot> {
+    match BookSnapshot::of(alloc, book, program) {
+        Ok(seen) => Some(seen),
+        Err(_) => BookSnapshot::of(alloc, book, program).ok(),
+    }
+}
+
+// A walk of an item that tries one schedule, made once more if it fails; `None` if it fails again.
+fn walk_one(alloc: Global, item: &Item, mode: Mode) -> Option<Walked> {
+    match walk(alloc, item, mode, 1) {
+        Ok(walked) => Some(walked),
+        Err(_) => walk(alloc, item, mode, 1).ok(),
+    }
+}
+
 // Walks an item and settles the walk, once more where memory to settle it is refused and the book
 // is unchanged. `None` where the book is changed, or a call fails for another reason or twice.
 fn walk_and_settle(alloc: Global, book: &mut Book, program: &Program, item: &Item) -> Option<()> {
-    let mode = book.mode();
-    let before = once_more!(BookSnapshot::of(alloc, book, program))?;
-    match book.settle(alloc, once_more!(walk(alloc, item, mode, 1))?) {
+    let before = snapshot_of(alloc, book, program)?;
+    match book.settle(alloc, walk_one(alloc, item, book.mode())?) {
         Ok(()) => Some(()),
         Err(SettleError::OutOfMemory) => {
-            if !once_more!(BookSnapshot::of(alloc, book, program))?.is_equal(&before) {
+            if !snapshot_of(alloc, book, program)?.is_equal(&before) {
                 return None;
             }
-            book.settle(alloc, once_more!(walk(alloc, item, mode, 1))?)
-                .ok()
+            book.settle(alloc, walk_one(alloc, item, book.mode())?).ok()
         }
         Err(_) => None,
     }
@@ -116,29 +139,46 @@ fn walk_and_settle(alloc: Global, book: &mut Book, program: &Program, item: &Ite
 // Joins a summary with itself and copies the result: how many schedules the copy counts, and how
 // many end views it has. `None` where a call fails twice.
 fn doubled_counts(alloc: Global, summary: &Summary) -> Option<(u64, usize)> {
-    let twice = once_more!(summary.join(alloc, summary))?;
-    let copy = once_more!(twice.try_clone(alloc))?;
+    let twice = match summary.join(alloc, summary) {
+        Ok(twice) => twice,
+        Err(_) => summary.join(alloc, summary).ok()?,
+    };
+    let copy = match twice.try_clone(alloc) {
+        Ok(copy) => copy,
+        Err(_) => twice.try_clone(alloc).ok()?,
+    };
     Some((copy.tried(), copy.ends().len()))
 }
 
 // A copy of the item of this prefix. Where memory is refused, it is made, or copied, once more;
 // `None` where that fails, too, or the program can't be shared once more.
 fn item_after(alloc: Global, program: &Arc<Program>, steps: &[u8]) -> Option<Item> {
-    let item = once_more!(Item::at(alloc, Arc::try_clone(program).ok()?, steps))?;
-    once_more!(item.try_clone(alloc))
+    let item = match Item::at(alloc, Arc::try_clone(program).ok()?, steps) {
+        Ok(item) => item,
+        Err(_) => Item::at(alloc, Arc::try_clone(program).ok()?, steps).ok()?,
+    };
+    match item.try_clone(alloc) {
+        Ok(copy) => Some(copy),
+        Err(_) => item.try_clone(alloc).ok(),
+    }
 }
 
 // How many seats a new board of 5 numbers and 3 seats has; `None` where memory is refused twice.
 fn count_seats(alloc: Global) -> Option<usize> {
-    let (_board, seats) = once_more!(Board::new(alloc, 5, 3))?;
+    let (_board, seats) = match Board::new(alloc, 5, 3) {
+        Ok(made) => made,
+        Err(_) => Board::new(alloc, 5, 3).ok()?,
+    };
     Some(seats.len())
 }
 
 // A new book of a program, at bound 0. Where memory is refused, a second one is tried; `None` where
 // that fails, too, or the program can't be shared once more.
 fn open_book(alloc: Global, program: &Arc<Program>) -> Option<Book> {
-    let mode = Mode::Bounded(0);
-    once_more!(Book::open(alloc, Arc::try_clone(program).ok()?, mode))
+    match Book::open(alloc, Arc::try_clone(program).ok()?, Mode::Bounded(0)) {
+        Ok(book) => Some(book),
+        Err(_) => Book::open(alloc, Arc::try_clone(program).ok()?, Mode::Bounded(0)).ok(),
+    }
 }
 
 // Walks the root of a new book and then all items that are open, and settles the walks. Answers how
@@ -147,7 +187,7 @@ fn walk_and_settle_bound(alloc: Global, book: &mut Book, program: &Arc<Program>)
     let mut settled = 0u64;
     walk_and_settle(alloc, book, program, &item_after(alloc, program, &[])?)?;
     for _ in 0..MOST_WALKS {
-        let items = once_more!(book.round(alloc))?;
+        let items = next_round(alloc, book)?;
         let Some(item) = items.as_slice().last() else {
             break;
         };
@@ -171,7 +211,7 @@ pub fn book_facts(alloc: Global, program: &Arc<Program>, schedule: &[u8]) -> Opt
         joined,
         ends,
         copied: item_after(alloc, program, schedule)?.prefix().len(),
-        next: count_steps(once_more!(book.round(alloc))?.as_slice()),
+        next: count_steps(next_round(alloc, &book)?.as_slice()),
         seats: count_seats(alloc)?,
     })
 }

@@ -3,16 +3,6 @@
 //! refused memory, `walk` counts schedules.
 #![tactic(auto)]
 
-/// What a call answers, which is made once more where it fails; `None` if it fails twice.
-macro_rules! once_more {
-    ($call:expr) => {
-        match $call {
-            Ok(answer) => Some(answer),
-            Err(_) => $call.ok(),
-        }
-    };
-}
-
 mod again;
 mod books;
 mod gate;
