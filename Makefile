@@ -112,8 +112,7 @@ try:
 # The crates with tests; those of up to four are run side by side.
 TESTED = $(sort $(shell grep -rl --include=*.rt '^\#\[test\]' crates | cut -d/ -f2))
 
-# In a copy: its path has a space, and so has that of temporary files, so what isn't quoted fails. The gate makes
-# the first of these parts alone.
+# In a copy: its path has a space, and so has that of temporary files, so what isn't quoted fails.
 QUICK = quick-shown quick-tried $(TESTED:%=quick-%)
 
 quick:

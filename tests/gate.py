@@ -24,7 +24,6 @@ PROGRAM = "build/ctxbound"
 TOOLS = "crates/tools/out/tools"
 FIRST = "crates/first/out/first"
 LEFT_OUT = re.compile(r"\w+ \S+: proved$")
-UNPROVED = ["make", "--no-print-directory", "quick", "QUICK=quick-shown", "BUILDS=1"]
 # What is tried of the built program after the commands that the documents show.
 TRIED = {
     "commands": [sys.executable, "tests/commands.py", PROGRAM, FIRST],
@@ -125,7 +124,6 @@ def main():
         closing = gate.part(name, words)
         if closing:
             print(closing, flush=True)
-    print(gate.part("shown commands, nothing proved, in a copy whose path has a space", UNPROVED), flush=True)
     closing = gate.part("refused memory", [sys.executable, "tests/allocations.py", PROGRAM, TOOLS])
     for line in gate.times():
         gate.say(line)
