@@ -27,7 +27,7 @@ define HELP
   make build [JOBS=4]
                   proves and builds the program, as many crates at once as JOBS says, and leaves it at
                   build/ctxbound. Without JOBS as many as there are processors, and 4 GB of free memory for each
-                    half an hour or more at first, and 3 GB on disk
+                    three quarters of an hour or more at first, and 3 GB on disk
   make test       the gate: each proof from nothing, each wrong body, each test, the commands
                   that the documents show, and refused memory
                     some 85 minutes on four processors; up to 12 GB, and up to 10 GB on disk
@@ -142,8 +142,8 @@ JOBS ?= $(shell awk -v most="$$(nproc)" '/^MemAvailable:/ { some = int($$2 / 400
 # In a crate's folder `rt all` checks that crate and those that it stands on.
 build:
 	@mkdir -p build
-	@echo "Proving and building the program and what it is built from, $(JOBS) crates at once: half an hour or more"
-	@echo "at first, under a minute after a small edit. To look at its progress: tail -f build/log"
+	@echo "Proving and building the program and what it is built from, $(JOBS) crates at once: three quarters of an hour"
+	@echo "or more at first, under a minute after a small edit. To look at its progress: tail -f build/log"
 	@cd crates/ctxbound && { rt all check --jobs $(JOBS) && rt run -- replay data/race.guest 0; } > ../../build/log 2>&1 \
 		|| { cat ../../build/log; exit 1; }
 	@cp crates/ctxbound/out/ctxbound build/ctxbound
