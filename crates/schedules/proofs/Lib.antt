@@ -16,3 +16,7 @@ pub mod IncrementsRun
 pub mod PrunedAwayRun
 pub mod Executions
 pub mod BranchesRun
+pub mod RenamedStates
+pub mod SwappedThreads
+pub mod HiddenThreads
+pub mod EqualThreadsOnce

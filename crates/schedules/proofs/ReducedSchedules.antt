@@ -1,5 +1,6 @@
 -- What sleep sets leave has the ends and the least bad schedule of all.
 use Rattle.std.proofs.Common.{◌≡◌, ℕ, zero, suc, ◌<◌, ◌⊎◌, inl, inr, Bool, true, false, cond, ◌&&◌, ◌||◌, nat_eq, nat_lt, List, [], ◌∷◌, length, map, Option, Some, None, refl, ap, ◌∙◌, sym, arith, subst}
+use Rattle.std.specs.Cmp.{both_ways}
 use Rattle.std.specs.List.{filter, list_any}
 use Rattle.std.proofs.lemmas.Bool.{cases_order, or_cases, and_parts, and_from, or_left, or_right}
 use Rattle.std.proofs.lemmas.Bool.Decides.{nat_tests}
@@ -10,13 +11,14 @@ use Rattle.semantics.specs.Ends.{enabled, is_terminal, view_at}
 use Rattle.semantics.specs.Work.{up_from, work}
 use Rattle.semantics.specs.View.{View, is_bad}
 use Rattle.semantics.specs.Waiters.{In}
+use Rattle.schedules.specs.Represents.{Represents}
 use Rattle.schedules.specs.Sleep.{is_kept, reduced_schedules, none_asleep}
 use Rattle.schedules.specs.Order.{is_complete, precedes, lesser, least, end_from, ends_badly}
 use Rattle.semantics.proofs.WorkFalls.{work-step, enabled_below}
 use Rattle.semantics.proofs.TerminalStates.{is_terminal-some}
 use Rattle.schedules.proofs.UnfoldingUnderPrefix.{complete_schedules-more, complete_schedules-terminal}
-use Rattle.semantics.proofs.ListMembers.{in_filter, from_filter, in_map, from_map, in_flat_map, from_flat_map, in_up_from, fewer}
-use Rattle.schedules.proofs.SleepSets.{lt_of, Before, Kept, sleep_law}
+use Rattle.semantics.proofs.ListMembers.{in_filter, from_filter, in_map, from_map, in_flat_map, from_flat_map, in_up_from, fewer, in_contains, contains_in}
+use Rattle.schedules.proofs.SleepSets.{lt_of, Before, Kept, hides_nobody, plain_law}
 use Rattle.schedules.proofs.SleepSets.Before.{ends, lower, after_same}
 use Rattle.schedules.proofs.SleepSets.Kept.{left, earlier, asleep_first}
 
@@ -137,13 +139,21 @@ pub in_all : (p : Program) (s : Snapshot) (w : List ℕ) → In (complete_schedu
     → is_complete p s w ≡ true
 in_all p s w h = in_all_up_to (suc (work p s)) p s w (omega arith) h
 
--- for each complete schedule one is left that ends in the same state, and does not come later
+-- Of all complete schedules some are kept, and for each other an earlier one has its key: then for
+-- each a kept one has its key, and does not come later.
 
-pub record Stays (p : Program) (s : Snapshot) (w : List ℕ) : Type 0 where
+-- it is kept, or an earlier one has its key
+abbrev pub KeptOrEarlier : {K : Type 0} → Program → Snapshot → (List ℕ → Bool) → (List ℕ → K)
+    → List ℕ → Type 0
+KeptOrEarlier p s keeps key w = (keeps w ≡ true)
+    ⊎ ((v : List ℕ) × (is_complete p s v ≡ true) × Before v w × (key v ≡ key w))
+
+pub record Stays {K : Type 0} (p : Program) (s : Snapshot) (keeps : List ℕ → Bool)
+    (key : List ℕ → K) (w : List ℕ) : Type 0 where
   pub by : List ℕ
   pub complete : is_complete p s by ≡ true
-  pub kept : is_kept p s none_asleep by ≡ true
-  pub same : state_after p s by ≡ state_after p s w
+  pub kept : keeps by ≡ true
+  pub same : key by ≡ key w
   pub order : (by ≡ w) ⊎ Before by w
 
 rank : Program → Snapshot → List ℕ → ℕ
@@ -156,68 +166,41 @@ rank-less p s v w h b = fewer (λ x. precedes x v) (λ x. precedes x w)
     (λ x e. before_precedes (before_trans (precedes_before x v e) b)) (complete_schedules p s) v
     (schedules_cut_at p s v h) (never_before_itself v) (before_precedes b)
 
-stays_up_to : (n : ℕ) (p : Program) (s : Snapshot) (w : List ℕ) → rank p s w < n
-    → is_complete p s w ≡ true → Stays p s w
-stays_up_to zero p s w less h = absurd (omega arith)
-stays_up_to (suc n) p s w less h = go (sleep_law p s none_asleep w h)
-    (λ v l c. stays_up_to n p s v l c)
-  where
-    go : Kept p s none_asleep w → ((v : List ℕ) → rank p s v < n → is_complete p s v ≡ true
-        → Stays p s v) → Stays p s w
-    go (left l) f = record { by = w; complete = h; kept = l; same = refl; order = inl refl }
-    go (earlier v c b e) f =
-        let l : rank p s v < rank p s w = rank-less p s v w c b in
-        let r : Stays p s v = f v (omega arith) c in
-        record {
-          by = r.by;
-          complete = r.complete;
-          kept = r.kept;
-          same = r.same ∙ e;
-          order = inr (elim r.order [
-            | inl i ↦ subst (λ x. Before x w) (sym i) b
-            | inr a ↦
-                before_trans a b
-          ]);
-        }
-    go (asleep_first t v c z e) f = cc
+module _ {K : Type 0} (p : Program) (s : Snapshot) (keeps : List ℕ → Bool) (key : List ℕ → K)
+    (met : (w : List ℕ) → is_complete p s w ≡ true → KeptOrEarlier p s keeps key w) where
+  stays_up_to : (n : ℕ) (w : List ℕ) → rank p s w < n → is_complete p s w ≡ true
+      → Stays p s keeps key w
+  stays_up_to zero w less h = absurd (omega arith)
+  stays_up_to (suc n) w less h = go (met w h) (λ v l c. stays_up_to n v l c)
+    where
+      go : KeptOrEarlier p s keeps key w → ((v : List ℕ) → rank p s v < n
+          → is_complete p s v ≡ true → Stays p s keeps key v) → Stays p s keeps key w
+      go (inl k) f = record { by = w; complete = h; kept = k; same = refl; order = inl refl }
+      go (inr e) f =
+          let b : Before e.0 w = e.2 in
+          let l : rank p s e.0 < rank p s w = rank-less p s e.0 w e.1 b in
+          let r : Stays p s keeps key e.0 = f e.0 (omega arith) e.1 in
+          record {
+            by = r.by;
+            complete = r.complete;
+            kept = r.kept;
+            same = r.same ∙ e.3;
+            order = inr (elim r.order [
+              | inl i ↦ subst (λ x. Before x w) (sym i) b
+              | inr a ↦
+                  before_trans a b
+            ]);
+          }
 
-pub stays : (p : Program) (s : Snapshot) (w : List ℕ) → is_complete p s w ≡ true → Stays p s w
-stays p s w h = stays_up_to (suc (rank p s w)) p s w (omega arith) h
+  pub stays : (w : List ℕ) → is_complete p s w ≡ true → Stays p s keeps key w
+  stays w h = stays_up_to (suc (rank p s w)) w (omega arith) h
 
 -- what is left is of all
-
-pub red_in : (p : Program) (s : Snapshot) (w : List ℕ) → is_complete p s w ≡ true
-    → is_kept p s none_asleep w ≡ true → In (reduced_schedules p s none_asleep) w
-unfolding reduced_schedules
-red_in p s w h k = in_filter (is_kept p s none_asleep) (complete_schedules p s) w
-    (schedules_cut_at p s w h) k
 
 pub in_red : (p : Program) (s : Snapshot) (w : List ℕ) → In (reduced_schedules p s none_asleep) w
     → In (complete_schedules p s) w
 unfolding reduced_schedules
 in_red p s w h = (from_filter (is_kept p s none_asleep) (complete_schedules p s) w h).0
-
--- the end views of what is left are those of all
-
-pub ends_left : (p : Program) (s : Snapshot) (x : View)
-    → In (map (end_from p s) (complete_schedules p s)) x
-    → In (map (end_from p s) (reduced_schedules p s none_asleep)) x
-ends_left p s x h =
-    let a : (w : List ℕ) × In (complete_schedules p s) w × (end_from p s w ≡ x) =
-    from_map (end_from p s) (complete_schedules p s) x h in
-    let r : Stays p s a.0 = stays p s a.0 (in_all p s a.0 a.1) in
-    subst (In (map (end_from p s) (reduced_schedules p s none_asleep))) (ap view_at r.same ∙ a.2)
-    (in_map (end_from p s) (reduced_schedules p s none_asleep) r.by
-    (red_in p s r.by r.complete r.kept))
-
-pub ends_of_all : (p : Program) (s : Snapshot) (x : View)
-    → In (map (end_from p s) (reduced_schedules p s none_asleep)) x
-    → In (map (end_from p s) (complete_schedules p s)) x
-ends_of_all p s x h =
-    let a : (w : List ℕ) × In (reduced_schedules p s none_asleep) w × (end_from p s w ≡ x) =
-    from_map (end_from p s) (reduced_schedules p s none_asleep) x h in
-    subst (In (map (end_from p s) (complete_schedules p s))) a.2
-    (in_map (end_from p s) (complete_schedules p s) a.0 (in_red p s a.0 a.1))
 
 -- the least of a list
 
@@ -266,31 +249,6 @@ same_least K L (Some m) (Some n) sub low (some i h) (some j k) = go (ordered m n
     go (first b) r = absurd (k r.0 r.1 (elim r.2
         [ inl e ↦ subst (λ x. Before x n) (sym e) b | inr c ↦ before_trans c b ]))
 
--- the least bad schedule of all is that of what is left
-pub least_bad : (p : Program) (s : Snapshot)
-    → least (filter (ends_badly p s) (complete_schedules p s))
-    ≡ least (filter (ends_badly p s) (reduced_schedules p s none_asleep))
-least_bad p s = same_least (filter (ends_badly p s) (complete_schedules p s))
-    (filter (ends_badly p s) (reduced_schedules p s none_asleep)) _ _
-    (λ w h. sub w (from_filter (ends_badly p s) (reduced_schedules p s none_asleep) w h))
-    (λ w h. low w (from_filter (ends_badly p s) (complete_schedules p s) w h)) (least_is _)
-    (least_is _)
-  where
-    sub : (w : List ℕ) → In (reduced_schedules p s none_asleep) w × (ends_badly p s w ≡ true)
-        → In (filter (ends_badly p s) (complete_schedules p s)) w
-    sub w h = in_filter (ends_badly p s) (complete_schedules p s) w (in_red p s w h.0) h.1
-
-    low : (w : List ℕ) → In (complete_schedules p s) w × (ends_badly p s w ≡ true) → (v : List ℕ)
-        × In (filter (ends_badly p s) (reduced_schedules p s none_asleep)) v
-        × ((v ≡ w) ⊎ Before v w)
-    low w h =
-        let r : Stays p s w = stays p s w (in_all p s w h.0) in (
-          r.by,
-          in_filter (ends_badly p s) (reduced_schedules p s none_asleep) r.by
-              (red_in p s r.by r.complete r.kept) (ap (λ z. is_bad (view_at z).kind) r.same ∙ h.1),
-          r.order,
-        )
-
 -- a test that some end passes
 module _ {A : Type 0} (test : A → Bool) where
   pub any_in : (xs : List A) → list_any test xs ≡ true → (x : A) × In xs x × (test x ≡ true)
@@ -308,21 +266,94 @@ module _ {A : Type 0} (test : A → Bool) where
   in_any (y ∷ ys) x (inl e) h = or_left (test y) (list_any test ys) (ap test e ∙ h)
   in_any (y ∷ ys) x (inr i) h = or_right (test y) (list_any test ys) (in_any ys x i h)
 
-same_tests : (a b : Bool) → (a ≡ true → b ≡ true) → (b ≡ true → a ≡ true) → a ≡ b
-same_tests true b f g = sym (f refl)
-same_tests false true f g = g refl
-same_tests false false f g = refl
+-- a part of all represents them, where for each of them one of the part has its end view, and does
+-- not come later
 
--- so each test of the ends has one answer
+abbrev pub MetBy : Program → Snapshot → List (List ℕ) → List ℕ → Type 0
+MetBy p s few w =
+    (v : List ℕ) × In few v × (end_from p s v ≡ end_from p s w) × ((v ≡ w) ⊎ Before v w)
+
+pub represents : (p : Program) (s : Snapshot) (few all : List (List ℕ))
+    → ((w : List ℕ) → In few w → In all w) → ((w : List ℕ) → In all w → MetBy p s few w)
+    → Represents p s few all
+represents p s few all own met = record {
+  own = λ w c. in_contains all w (own w (contains_in few w c));
+  least_bad = sym (same_least (filter (ends_badly p s) all) (filter (ends_badly p s) few) _ _
+      (λ w h. among_all w (from_filter (ends_badly p s) few w h))
+      (λ w h. among_few w (from_filter (ends_badly p s) all w h)) (least_is _) (least_is _));
+  ends = λ x. (
+    λ c.
+        let a = from_map (end_from p s) few x (contains_in _ x c) in
+        in_contains _ x (subst (In (map (end_from p s) all)) a.2
+        (in_map (end_from p s) all a.0 (own a.0 a.1))),
+    λ c.
+        let a = from_map (end_from p s) all x (contains_in _ x c) in
+        let m : MetBy p s few a.0 = met a.0 a.1 in
+        in_contains _ x (subst (In (map (end_from p s) few)) (m.2 ∙ a.2)
+        (in_map (end_from p s) few m.0 m.1)),
+  );
+}
+  where
+    among_all : (w : List ℕ) → In few w × (ends_badly p s w ≡ true)
+        → In (filter (ends_badly p s) all) w
+    among_all w h = in_filter (ends_badly p s) all w (own w h.0) h.1
+
+    among_few : (w : List ℕ) → In all w × (ends_badly p s w ≡ true) → (v : List ℕ)
+        × In (filter (ends_badly p s) few) v × ((v ≡ w) ⊎ Before v w)
+    among_few w h =
+        let m : MetBy p s few w = met w h.0 in
+        let bad : ends_badly p s m.0 ≡ true = ap (λ (x : View). is_bad x.kind) m.2 ∙ h.1 in
+        (m.0, in_filter (ends_badly p s) few m.0 m.1 bad, m.3)
+
+-- then each test of the ends has one answer
+pub same_answers : (p : Program) (s : Snapshot) (few all : List (List ℕ))
+    → Represents p s few all → (test : View → Bool)
+    → list_any test (map (end_from p s) all) ≡ list_any test (map (end_from p s) few)
+same_answers p s few all r test = both_ways _ _
+    (λ h. let a : (x : View) × In (map (end_from p s) all) x × (test x ≡ true) =
+    any_in test (map (end_from p s) all) h in
+    in_any test (map (end_from p s) few) a.0
+    (contains_in _ a.0 ((r.ends a.0).1 (in_contains _ a.0 a.1))) a.2)
+    (λ h. let a : (x : View) × In (map (end_from p s) few) x × (test x ≡ true) =
+    any_in test (map (end_from p s) few) h in
+    in_any test (map (end_from p s) all) a.0
+    (contains_in _ a.0 ((r.ends a.0).0 (in_contains _ a.0 a.1))) a.2)
+
+-- what sleep sets leave represents all
+
+pub reduced_represent : (p : Program) (s : Snapshot)
+    → Represents p s (reduced_schedules p s none_asleep) (complete_schedules p s)
+unfolding reduced_schedules
+reduced_represent p s = represents p s _ (complete_schedules p s) (in_red p s)
+    (λ w h. left_for w (stays p s (is_kept p s none_asleep) (state_after p s) met w
+    (in_all p s w h)))
+  where
+    met : (w : List ℕ) → is_complete p s w ≡ true
+        → KeptOrEarlier p s (is_kept p s none_asleep) (state_after p s) w
+    met w h = go (plain_law p s none_asleep w h)
+      where
+        go : Kept (λ x. x) p hides_nobody s None none_asleep w
+            → KeptOrEarlier p s (is_kept p s none_asleep) (state_after p s) w
+        go (left l m) = inl l
+        go (earlier v c b e) = inr (v, c, b, e)
+        go (asleep_first t v c z e) = cc
+
+    left_for : (w : List ℕ) → Stays p s (is_kept p s none_asleep) (state_after p s) w
+        → MetBy p s (filter (is_kept p s none_asleep) (complete_schedules p s)) w
+    left_for w r = (
+      r.by,
+      in_filter (is_kept p s none_asleep) (complete_schedules p s) r.by
+          (schedules_cut_at p s r.by r.complete) r.kept,
+      ap view_at r.same,
+      r.order,
+    )
+
+pub least_bad : (p : Program) (s : Snapshot)
+    → least (filter (ends_badly p s) (complete_schedules p s))
+    ≡ least (filter (ends_badly p s) (reduced_schedules p s none_asleep))
+least_bad p s = sym (reduced_represent p s).least_bad
+
 pub ends_pass : (p : Program) (s : Snapshot) (test : View → Bool)
     → list_any test (map (end_from p s) (complete_schedules p s))
     ≡ list_any test (map (end_from p s) (reduced_schedules p s none_asleep))
-ends_pass p s test = same_tests _ _
-    (λ h. let r : (x : View) × In (map (end_from p s) (complete_schedules p s)) x
-    × (test x ≡ true) = any_in test (map (end_from p s) (complete_schedules p s)) h in in_any
-    test (map (end_from p s) (reduced_schedules p s none_asleep)) r.0 (ends_left p s r.0 r.1)
-    r.2)
-    (λ h. let r : (x : View) × In (map (end_from p s) (reduced_schedules p s none_asleep)) x
-    × (test x ≡ true) = any_in test (map (end_from p s) (reduced_schedules p s none_asleep)) h
-    in in_any test (map (end_from p s) (complete_schedules p s)) r.0 (ends_of_all p s r.0 r.1)
-    r.2)
+ends_pass p s test = same_answers p s _ _ (reduced_represent p s) test

@@ -7,3 +7,6 @@ pub mod Dependence
 pub mod Increments
 pub mod PrunedAway
 pub mod Branches
+pub mod Renaming
+pub mod EqualThreads
+pub mod Represents

@@ -4,4 +4,5 @@ pub mod independence;
 pub mod order;
 pub mod reachable;
 pub mod schedules;
+pub mod symmetry;
 pub mod worked;

@@ -13,7 +13,8 @@
 //! [`laws`] says of the definitions what a search for bugs rests on: complete schedules are one
 //! list, in order, each once, and short; how preemptions count; which are under a prefix, or within
 //! a bound; that independent steps commute; that what sleep sets leave has all end views and the
-//! least bad schedule. Others are of states that schedules lead to, and of three small programs.
+//! least bad schedule; and that of two equal threads only the lower one has to be tried. Others are
+//! of states that schedules lead to, and of three small programs.
 #![tactic(auto)]
 
 pub mod execution;

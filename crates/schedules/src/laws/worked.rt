@@ -1,10 +1,11 @@
 //! The schedules of small programs, one by one.
 
-ghost use Rattle.std.specs.Prelude.{◌≡◌, pos, nat_le, [], ◌∷◌, map, filter};
+ghost use Rattle.std.specs.Prelude.{◌≡◌, pos, nat_le, [], ◌∷◌, map, filter, take, None};
 ghost use Rattle.semantics.specs.declared.state.Status.TheVariants.{Ended, Stopped};
 ghost use Rattle.semantics.specs.declared.state.Stop.TheVariants.{Assert as FailedAssert};
 ghost use Rattle.semantics.specs.declared.view.Kind.TheVariants.{Done, Failed};
 ghost use Rattle.schedules.specs.Branches.{branches, IsAt};
+ghost use Rattle.schedules.specs.EqualThreads.{complete_once, hides_equal, is_unhidden};
 ghost use Rattle.semantics.specs.Machine.{start, thread_at};
 ghost use Rattle.schedules.specs.Schedules.{complete_schedules, preemptions};
 ghost use Rattle.schedules.specs.Order.{end_of};
@@ -14,7 +15,10 @@ ghost use Rattle.schedules.specs.PrunedAway.{pruned_away, last, between, three_s
 
 /// Two threads that each load a variable, add 1 and store the sum have six complete schedules, with
 /// 0, 2, 1, 1, 2 and 0 preemptions; all but the two with none lose an update. Sleep sets keep four:
-/// of schedules that differ in the order of the two loads alone, the first.
+/// of schedules that differ in the order of the two loads alone, the first. The threads are equal at
+/// the start, and after both loads: tried once, they have the first three. Were the thread of the
+/// last step hidden, too, the first two would be left, and none with one preemption that loses an
+/// update.
 pub fn increments_have_six_schedules()
     ensures complete { complete_schedules increments (start increments) ≡ six_schedules }
     ensures preemptions { map (preemptions increments) six_schedules ≡ 0 ∷ 2 ∷ 1 ∷ 1 ∷ 2 ∷ 0 ∷ [] }
@@ -22,6 +26,10 @@ pub fn increments_have_six_schedules()
         ≡ done_with (pos 2) ∷ done_with (pos 1) ∷ done_with (pos 1)
         ∷ done_with (pos 1) ∷ done_with (pos 1) ∷ done_with (pos 2) ∷ [] }
     ensures reduced { reduced_schedules increments (start increments) none_asleep ≡ four_schedules }
+    ensures once { complete_once increments (start increments) None ≡ take 3 six_schedules }
+    ensures last_hidden { filter
+        (is_unhidden (hides_equal increments) increments (start increments) None)
+        (complete_schedules increments (start increments)) ≡ take 2 six_schedules }
 {}
 
 /// Why a search within a bound must not prune by sleep sets: of the three complete schedules of the

@@ -1,4 +1,4 @@
-use Rattle.schedules.proofs.IncrementsRun.{six_complete, their_preemptions, their_ends, four_kept}
+use Rattle.schedules.proofs.IncrementsRun.{six_complete, their_preemptions, their_ends, four_kept, three_once, two_once}
 use Rattle.schedules.proofs.laws.worked.increments_have_six_schedules.Goals as goal
 
 pub returns : goal.returns
@@ -7,4 +7,6 @@ returns c = record {
   preemptions = their_preemptions;
   ends = their_ends;
   reduced = four_kept;
+  once = three_once;
+  last_hidden = two_once;
 }
