@@ -429,6 +429,12 @@ walked_tried w v = (
     test : List ℕ → Bool
     test u = not (is_under w.rest u)
 
+pub walked_part : (w : WalkView) → IsWalked w →
+    w.part ≡ with_beyond (sum_of w.item.program (tried_by w)) w.part.beyond
+walked_part w h =
+    h.split.sum ∙ ap (λ (t : SummaryView). with_beyond t w.part.beyond)
+    (sym (sum_of-permutation w.item.program _ _ (walked_clear w h)))
+
 -- counts
 
 counts_of : (mode : Mode) (items : List ItemView) →

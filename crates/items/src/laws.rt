@@ -11,7 +11,7 @@ ghost use Rattle.schedules.specs.Rising.{IsRising};
 ghost use Rattle.schedules.specs.Sleep.{is_kept, reduced_schedules, none_asleep};
 ghost use Rattle.items.specs.declared.mode.Mode.{Mode};
 ghost use Rattle.items.specs.declared.mode.Mode.TheVariants.{Bounded, Reduced};
-ghost use Rattle.summary.specs.Summaries.{cut, greatest_count, nothing, join, with_beyond};
+ghost use Rattle.summary.specs.Summaries.{cut, greatest_count, nothing, sum_of, join, with_beyond};
 ghost use Rattle.items.specs.Items.{ItemView, IsItem, IsScheduleOf, state_of, root_of, schedules_of, goes_beyond, item_sum, item_sums, schedule_count, is_under};
 ghost use Rattle.items.specs.Walks.{WalkView, IsWalked, IsBelow, IsDeferred, HasAllPast, tried_by};
 ghost use Rattle.items.specs.FullSums.{full_sum, full_sums};
@@ -70,6 +70,13 @@ pub fn tried_are_under_none()
     ensures { (w : WalkView) (v : List ℕ) → Contains (tried_by w) v ↔
         (Contains (schedules_of w.mode w.item) v ×
         All (λ r. begins_with r.prefix v ≡ false) w.rest) }
+{}
+
+/// The part of a walk, its flag `beyond` aside, is the sum of the schedules that the walk tried:
+/// those of its item that begin with no left item's prefix.
+pub fn part_is_the_sum_of_what_was_tried()
+    ensures { (w : WalkView) → IsWalked w →
+        w.part ≡ with_beyond (sum_of w.item.program (tried_by w)) w.part.beyond }
 {}
 
 /// Each item that a walk left has those of the walked item's schedules that begin with its prefix.

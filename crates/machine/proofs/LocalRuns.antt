@@ -1,12 +1,11 @@
 -- What a thread does with those of its locals that are kept, and how many are enough.
 use Rattle.std.proofs.Common.{◌≡◌, ℕ, ℤ, zero, suc, ◌+◌, ◌≤◌, true, false, cond, List, [], ◌∷◌, length, take, drop, set, refl, ap, ◌∙◌, sym, arith}
-use Rattle.std.specs.Prelude.{All}
+use Rattle.std.specs.Prelude.{All, pos}
 use Rattle.std.specs.Int.{int_wrapping_add, w64}
 use Rattle.std.specs.Ordering.{int_eq}
 use Rattle.std.proofs.Math.Seq.{take-set-lt}
 use Rattle.std.proofs.lemmas.List.{get_or-take}
 use Rattle.std.proofs.lemmas.List.Elements.{All-drop}
-use Rattle.std.specs.Prelude.{pos}
 use Rattle.guest_code.specs.Program.{Program, code_of, IsValueBelow, IsExpressionBelow, LocalsBelow}
 use Rattle.guest_code.specs.declared.program.Value.{Value}
 use Rattle.guest_code.specs.declared.program.Value.TheVariants.{Local, Literal}
@@ -24,10 +23,9 @@ use Rattle.semantics.specs.Machine.{Snapshot, thread_at, value_of_operand, var_a
 use Rattle.semantics.specs.Expressions.{of_both}
 use Rattle.machine.specs.declared.control.Control.{Control}
 use Rattle.semantics.specs.declared.local.Landing.{Landing}
-use Rattle.semantics.specs.Turns.{own_thread, IsAccessBelow}
+use Rattle.semantics.specs.Turns.{own_thread, IsAccessBelow, turn_of, locals_after}
 use Rattle.machine.specs.inner.LocalRuns.{narrow, IsLandingOf}
 use Rattle.semantics.specs.declared.local.Turn.TheVariants.{Runs}
-use Rattle.semantics.specs.Turns.{turn_of, locals_after}
 use Rattle.semantics.proofs.LocalRuns.{turn_run}
 use Rattle.machine.specs.inner.Steps.{settled, going_on, place_after, IsPerformed, IsPassed}
 
@@ -124,27 +122,14 @@ ran_on p s t c cells mine pc q here below =
     place : pc ≡ q.th.pc
     place = here ∙ sym q.pc
 
-stayed : (p : Program) (s : Snapshot) (t : ℕ) (c : Control) (cells mine : List ℤ) (pc : ℕ)
-    (status : Status) (q : IsPerformed p s t c cells mine status) → pc ≡ (thread_at s t).pc
-    → (w : Status) → record { pc = pc; locals = mine; status = w }
-    ≡ narrow (length mine) (with_status q.th w)
-stayed p s t c cells mine pc status q here w =
-    λ i. record { pc = (here ∙ sym q.pc) i; locals = q.own i; status = w }
-
 goes_on : (p : Program) (s : Snapshot) (t : ℕ) (c : Control) (cells mine : List ℤ) (pc : ℕ)
     (status : Status) (q : IsPerformed p s t c cells mine status) → pc ≡ (thread_at s t).pc
     → All (LocalsBelow (length mine)) (code_of p t)
     → going_on (code_of p t) status (place_after status pc) mine
     ≡ narrow (length mine) (settled (code_of p t) status q.th)
 goes_on p s t c cells mine pc Running q here below = ran_on p s t c cells mine pc q here below
-goes_on p s t c cells mine pc Ended q here below =
-    stayed p s t c cells mine pc Ended q here Ended
-goes_on p s t c cells mine pc Woken q here below =
-    stayed p s t c cells mine pc Woken q here Woken
-goes_on p s t c cells mine pc (Waiting d) q here below =
-    stayed p s t c cells mine pc (Waiting d) q here (Waiting d)
-goes_on p s t c cells mine pc (Stopped why) q here below =
-    stayed p s t c cells mine pc (Stopped why) q here (Stopped why)
+goes_on p s t c cells mine pc status q here below =
+    λ i. record { pc = (here ∙ sym q.pc) i; locals = q.own i; status = status }
 
 pub passed : (p : Program) (s : Snapshot) (t : ℕ) (c : Control) (cells mine : List ℤ) (pc : ℕ)
     (status : Status) → IsPerformed p s t c cells mine status → pc ≡ (thread_at s t).pc
@@ -163,10 +148,7 @@ pub stays : (code : List Instruction) (status : Status) (pc : ℕ) (mine : List 
     → own_thread (record { pc = pc; status = status; free = false }) mine
     ≡ going_on code status pc mine
 stays code Running pc mine stops = absurd (stops refl)
-stays code Ended pc mine stops = refl
-stays code Woken pc mine stops = refl
-stays code (Waiting d) pc mine stops = refl
-stays code (Stopped why) pc mine stops = refl
+stays code status pc mine stops = refl
 
 -- one instruction more, that it does by itself
 pub turned_on : (p : Program) (s : Snapshot) (t : ℕ) (c : Control) (cells mine mine' : List ℤ)

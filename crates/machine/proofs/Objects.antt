@@ -139,11 +139,9 @@ still s k (suc n) a l z h = let_through s k n a l ∙ may_acquire s k a h
 not_over : (s : Snapshot) (status : Status) (o : Option Instruction)
     → can_do s (action_at status o) ≡ true
     → (is_ended status ≡ false) × (is_stopped status ≡ false)
-not_over s Running o e = (refl, refl)
-not_over s Woken o e = (refl, refl)
-not_over s (Waiting c) o e = (refl, refl)
 not_over s Ended o e = cc
 not_over s (Stopped why) o e = cc
+not_over s status o e = (refl, refl)
 
 -- a thread that is about to take a step
 pub leaving : (p : Program) (s : Snapshot) (t : ℕ) (c : Control) (a : Option Action)

@@ -1,10 +1,7 @@
 -- A run of a thread: what one more step makes of it.
-use Rattle.std.proofs.Common.{◌≡◌, ◌≢◌, ℕ, ℤ, ◌+◌, ◌<◌, ◌≤◌, ◌*◌, ◌-◌, Bool, true, false, cond, List, [], ◌∷◌, length, take}
-use Rattle.std.proofs.Common.{replicate, slice_get, Some, get_or, set, nat_eq, refl, ap, ◌∙◌, sym}
-use Rattle.std.proofs.Common.{subst, arith, ◌⊎◌, inl, inr, get_or-set_same, get_or-set_other, drop}
+use Rattle.std.proofs.Common.{◌≡◌, ◌≢◌, ℕ, ℤ, ◌+◌, ◌<◌, ◌≤◌, ◌*◌, ◌-◌, Bool, true, false, cond, List, [], ◌∷◌, length, take, replicate, slice_get, Some, get_or, set, refl, ap, ◌∙◌, sym, subst, arith, ◌⊎◌, inl, inr, get_or-set_same, get_or-set_other, drop}
 use Rattle.std.proofs.Math.Path.{transport}
 use Rattle.std.proofs.lemmas.Bool.{cases_order, cases_lt}
-use Rattle.std.proofs.lemmas.Bool.Decides.{nat_tests}
 use Rattle.std.proofs.lemmas.List.{replicate_more, drop_more, drop_all, get_or_default}
 use Rattle.machine.proofs.Lists.{read_at}
 use Rattle.std.specs.Prelude.{All}
@@ -29,18 +26,13 @@ use Rattle.machine.specs.declared.control.steps.MovingThread.{MovingThread}
 use Rattle.machine.specs.Refinement.{HasObjects, HasThreadAt, IsControl}
 use Rattle.machine.specs.inner.LocalRuns.{narrow}
 use Rattle.machine.specs.inner.Parts.{IsLeaving}
-use Rattle.machine.specs.inner.Runs.{run_to, IsGoing, IsRunTo, IsSetBut}
+use Rattle.machine.specs.inner.Runs.{run_to, IsGoing, IsRunTo}
 use Rattle.machine.specs.inner.Steps.{Faces, HasShared, IsReadyIn, IsPoised, IsPerformed, IsPassed, IsStepped, settled, place_after}
 use Rattle.machine.proofs.LocalRuns.{passed, turned_on}
 use Rattle.semantics.specs.declared.local.Turn.{Turn}
 use Rattle.semantics.specs.declared.local.Turn.TheVariants.{Runs, Ends}
 use Rattle.semantics.specs.Turns.{turn_of, locals_after}
 use Rattle.machine.proofs.Objects.{can_held}
-
--- masks of the same bits are the same
-pub same_mask : (a b : Mask) → nat_eq a.bits b.bits ≡ true → a ≡ b
-same_mask a b h = let same : a.bits ≡ b.bits = grind (arith, nat_tests, h) in
-    λ i. record { bits = same i }
 
 pub run_more : (p : Program) (s : Snapshot) (t n : ℕ)
     → run_to p s t (n + 1) ≡ step p (run_to p s t n) t
@@ -51,17 +43,11 @@ run_more p s t n = ap (state_after p s) (sym (replicate_more n t))
 
 pub place_more : (status : Status) (pc : ℕ) → pc ≤ place_after status pc
 place_more Running pc = omega arith
-place_more Ended pc = omega arith
-place_more Woken pc = omega arith
-place_more (Waiting c) pc = omega arith
-place_more (Stopped why) pc = omega arith
+place_more status pc = omega arith
 
 pub place_within : (status : Status) (pc n : ℕ) → pc < n → place_after status pc ≤ n
 place_within Running pc n l = omega (arith, l)
-place_within Ended pc n l = omega (arith, l)
-place_within Woken pc n l = omega (arith, l)
-place_within (Waiting c) pc n l = omega (arith, l)
-place_within (Stopped why) pc n l = omega (arith, l)
+place_within status pc n l = omega (arith, l)
 
 pub place_next : (status : Status) (pc : ℕ) → status ≡ Running → place_after status pc ≡ pc + 1
 place_next status pc e = ap (λ w. place_after w pc) e
@@ -71,18 +57,17 @@ pub begun : (p : Program) (s : Snapshot) (t : ℕ) (c d : Control) (cells mine c
     (pc : ℕ) (m : MovingThread)
     → IsReadyIn p s t c cells mine → IsPerformed p s t d cells' mine' m.status
     → pc ≡ (thread_at s t).pc → pc < length (code_of p t) → length mine' ≡ length mine
-    → m.place ≡ place_after m.status pc → m.steps ≡ 1 → has m.among t ≡ true
-    → IsGoing p s t d cells' mine' m
-begun p s t c d cells mine cells' mine' pc m ready q here inside long place one itself = record {
+    → m.place ≡ place_after m.status pc → m.steps ≡ 1 → IsGoing p s t d cells' mine' m
+begun p s t c d cells mine cells' mine' pc m ready q here inside long place one = record {
   done = 0;
   steps = one;
   of = ready.of;
-  enabled = ready.enabled;
+  enabled = λ k few. (let first : 0 ≡ k = omega (arith, few, one) in
+      subst (λ (j : ℕ). is_enabled p (run_to p s t j) t ≡ true) first ready.enabled);
   passed = subst (λ k. IsPassed p s t d cells' mine' k m.status) (sym place)
       (passed p s t d cells' mine' pc m.status q here below);
   others = λ u ne. refl;
-  between = λ k some few. absurd (omega (arith, some, few, one));
-  itself = itself;
+  between = λ _ k some few. absurd (omega (arith, some, few, one));
   few = omega (arith, one);
   fewer = λ e. (let next = place_next m.status pc e in omega (arith, one, place, next));
   within = let few = place_within m.status pc (length (code_of p t)) inside in
@@ -92,6 +77,12 @@ begun p s t c d cells mine cells' mine' pc m ready q here inside long place one 
   where
     below : All (LocalsBelow (length mine')) (code_of p t)
     below = subst (λ n. All (LocalsBelow n) (code_of p t)) (sym long) ready.below
+
+-- the thread may take the last of its steps
+pub last_enabled : (p : Program) (s : Snapshot) (t : ℕ) (c : Control) (cells mine : List ℤ)
+    (m : MovingThread) (h : IsGoing p s t c cells mine m)
+    → is_enabled p (run_to p s t h.done) t ≡ true
+last_enabled p s t c cells mine m h = h.enabled h.done (omega (arith, h.steps))
 
 -- a run ends: the thread comes further, or it was its last instruction
 pub comes_further : (size a b : ℕ) (before after : Bool) → before ≡ true → a ≤ b → b ≤ size
@@ -232,40 +223,50 @@ module _ (p : Program) (s : Snapshot) (t : ℕ) (c : Control) (cells mine : List
   last : run_to p s t m.steps ≡ step p (run_to p s t h.done) t
   last = ap (run_to p s t) h.steps ∙ run_more p s t h.done
 
+  moves : is_enabled p (run_to p s t h.done) t ≡ true
+  moves = last_enabled p s t c cells mine m h
+
   pub enabled_going : (on : Mask) → has on t ≡ true
       → ((u : ℕ) → u ≢ t → has on u ≡ has c.enabled u) → HasEnabled on p (run_to p s t m.steps)
   enabled_going on itself others = subst (HasEnabled on p) (sym last)
-      (all_enabled p (run_to p s t h.done) t c cells mine m.place i way h.of h.enabled inside here
+      (all_enabled p (run_to p s t h.done) t c cells mine m.place i way h.of moves inside here
       read can on itself others)
 
   pub poised_going : IsPoised p (run_to p s t m.steps) t i c cells mine
   poised_going = subst (λ z. IsPoised p z t i c cells mine) (sym last)
-      (poised_on p (run_to p s t h.done) t c cells mine m.place i way h.of h.enabled inside here
+      (poised_on p (run_to p s t h.done) t c cells mine m.place i way h.of moves inside here
       read can fine h.below)
 
   -- after its step
   pub going_further : (d : Control) (cells' mine' : List ℤ) (n : MovingThread)
       → IsPerformed p (run_to p s t m.steps) t d cells' mine' n.status
       → length mine' ≡ length mine → n.place ≡ place_after n.status m.place
-      → n.steps ≡ m.steps + 1 → n.among ≡ m.among → IsSetBut t c.enabled m.among
+      → n.steps ≡ m.steps + 1 → n.among ≡ m.among → n.heedless ≡ m.heedless
+      → (m.heedless ≡ false
+      → (has m.among t ≡ true) × ((u : ℕ) → u ≢ t → has m.among u ≡ has c.enabled u))
       → IsGoing p s t d cells' mine' n
-  going_further d cells' mine' n q long place steps same is_set = record {
+  going_further d cells' mine' n q long place steps same heeds is_set = record {
     done = m.steps;
     steps = steps;
     of = poised.of;
-    enabled = ap (can_do (run_to p s t m.steps)) poised.next ∙ poised.allowed;
+    enabled = λ k few. elim (cases_order k m.steps) [
+      | inl e ↦ subst (λ (j : ℕ). is_enabled p (run_to p s t j) t ≡ true) (sym e)
+          (ap (can_do (run_to p s t m.steps)) poised.next ∙ poised.allowed)
+      | inr (inl l) ↦ h.enabled k l
+      | inr (inr g) ↦ absurd (omega (arith, few, steps, g))
+    ];
     passed = subst (λ k. IsPassed p (run_to p s t m.steps) t d cells' mine' k n.status) (sym place)
         (passed p (run_to p s t m.steps) t d cells' mine' m.place n.status q at below);
     others = λ u ne. ap (λ (x : Snapshot). (thread_at x u).locals) last
         ∙ (stepped u ne ∙ h.others u ne);
-    between = λ k some few. subst (λ on. HasEnabled on p (run_to p s t k)) (sym same)
+    between = λ off k some few. (let heeding = sym heeds ∙ off in
+        subst (λ on. HasEnabled on p (run_to p s t k)) (sym same)
         (elim (cases_order k m.steps) [
           | inl e ↦ subst (λ (j : ℕ). HasEnabled m.among p (run_to p s t j)) (sym e)
-              (enabled_going m.among is_set.0 is_set.1)
-          | inr (inl l) ↦ h.between k some l
+              (enabled_going m.among (is_set heeding).0 (is_set heeding).1)
+          | inr (inl l) ↦ h.between heeding k some l
           | inr (inr g) ↦ absurd (omega (arith, few, steps, g))
-        ]);
-    itself = ap (λ on. has on t) same ∙ is_set.0;
+        ]));
     few = let more = place_more n.status m.place in
         omega (arith, steps, place, more, h.fewer runs);
     fewer = λ e. (let next = place_next n.status m.place e in
@@ -280,10 +281,10 @@ module _ (p : Program) (s : Snapshot) (t : ℕ) (c : Control) (cells mine : List
 
       at : m.place ≡ (thread_at (run_to p s t m.steps) t).pc
       at = ap (λ (x : Thread). x.pc) (is p (run_to p s t h.done) t c cells mine m.place i way h.of
-          h.enabled inside here read can)
+          moves inside here read can)
           ∙ sym (ap (λ (x : Snapshot). (thread_at x t).pc) last
           ∙ ap (λ (x : Thread). x.pc) (now p (run_to p s t h.done) t c cells mine m.place i way h.of
-          h.enabled inside here read can))
+          moves inside here read can))
 
       below : All (LocalsBelow (length mine')) (code_of p t)
       below = subst (λ k. All (LocalsBelow k) (code_of p t)) (sym long) h.below
@@ -315,7 +316,6 @@ going_locally p s t c cells mine mine' m n next code h runs same turn made long 
           made long);
       others = h.others;
       between = h.between;
-      itself = h.itself;
       few = omega (arith, h.few, further);
       fewer = λ e. omega (arith, h.fewer e, further);
       within = omega (arith, few, ap (λ (is : List Instruction). length is) same);
@@ -338,19 +338,22 @@ visible_inside at locals code w turn there = elim (cases_lt at (length code)) [
 
 -- the run is over
 pub run_over : (p : Program) (s : Snapshot) (t : ℕ) (c d : Control) (cells mine mine' : List ℤ)
-    (m : MovingThread) (r : Run)
+    (m : MovingThread) (r : Run) (heedless : Bool)
     → (h : IsGoing p s t c cells mine m)
     → IsStepped p (run_to p s t h.done) t d cells mine'
-    → r.steps ≡ m.steps → r.among ≡ m.among → IsRunTo p s t r d cells mine'
-run_over p s t c d cells mine mine' m r h st steps among = record {
-  of = subst (IsOf p) (sym last) (step_is_of p (run_to p s t h.done) t h.of h.enabled);
+    → r.steps ≡ m.steps → r.among ≡ m.among → heedless ≡ m.heedless
+    → IsRunTo p s t heedless r d cells mine'
+run_over p s t c d cells mine mine' m r heedless h st steps among heeds = record {
+  of = subst (IsOf p) (sym last)
+      (step_is_of p (run_to p s t h.done) t h.of (last_enabled p s t c cells mine m h));
   control = subst (IsControl p d) (sym last) st.control;
   shared = subst (HasShared d cells) (sym last) st.shared;
   own = st.own ∙ ap (λ (x : Snapshot). take (length mine') (thread_at x t).locals) (sym last);
   others = λ u ne. ap (λ (x : Snapshot). (thread_at x u).locals) last
       ∙ (st.others u ne ∙ h.others u ne);
-  between = λ k some few. subst (λ on. HasEnabled on p (run_to p s t k)) (sym among)
-      (h.between k some (omega (arith, few, steps)));
+  enabled = λ k few. h.enabled k (omega (arith, few, steps));
+  between = λ off k some few. subst (λ on. HasEnabled on p (run_to p s t k)) (sym among)
+      (h.between (sym heeds ∙ off) k some (omega (arith, few, steps)));
 }
   where
     last : run_to p s t r.steps ≡ step p (run_to p s t h.done) t

@@ -1,5 +1,5 @@
 -- The values of a machine, in one list: the variables, the queues, and then each thread's locals.
-use Rattle.std.proofs.Common.{◌≡◌, ◌≢◌, ℕ, ℤ, suc, ◌+◌, ◌-◌, ◌*◌, ◌<◌, ◌≤◌, true, ◌⊎◌, List, ◌++◌, pos, get_or, length, take, drop, refl, ap, ◌∙◌, sym, subst, arith, inl, inr}
+use Rattle.std.proofs.Common.{◌≡◌, ◌≢◌, ℕ, ℤ, suc, ◌+◌, ◌-◌, ◌*◌, ◌<◌, ◌≤◌, Bool, true, ◌⊎◌, List, ◌++◌, pos, get_or, length, take, drop, refl, ap, ◌∙◌, sym, subst, arith, inl, inr}
 use Rattle.std.specs.Prelude.{All}
 use Rattle.std.proofs.lemmas.Bool.{cases_order}
 use Rattle.std.proofs.Math.Nat.{mul-le-mul_right}
@@ -170,7 +170,8 @@ module _ (p : Program) (f w : ℕ) (c : Control) (values : List ℤ) (s : Snapsh
         subst (λ x. Rewrites w t x (put_mid (t * w) (t * w + w - t * w) all ys) ys) same
         (rewrites w t all all_inside ys long)
 
-  module _ (r : Run) (d : Control) (cells new mine : List ℤ) (st : IsRunTo p s t r d cells mine)
+  module _ {heedless : Bool} (r : Run) (d : Control) (cells new mine : List ℤ)
+      (st : IsRunTo p s t heedless r d cells mine)
       (long : length mine ≡ w) (wrote : Rewrites w t old new mine) where
     abbrev after : Snapshot
     after = run_to p s t r.steps

@@ -25,17 +25,11 @@ use Rattle.machine.proofs.Objects.{leaving}
 runs_or_woken : (status : Status) (s : Snapshot) (o : Option Instruction)
     → can_do s (action_at status o) ≡ true → is_woken status ≡ false → status ≡ Running
 runs_or_woken Running s o h w = refl
-runs_or_woken Woken s o h w = cc
-runs_or_woken (Waiting c) s o h w = cc
-runs_or_woken Ended s o h w = cc
-runs_or_woken (Stopped why) s o h w = cc
+runs_or_woken status s o h w = cc
 
 is_the_woken : (status : Status) → is_woken status ≡ true → status ≡ Woken
 is_the_woken Woken w = refl
-is_the_woken Running w = cc
-is_the_woken (Waiting c) w = cc
-is_the_woken Ended w = cc
-is_the_woken (Stopped why) w = cc
+is_the_woken status w = cc
 
 module _ (p : Program) (s : Snapshot) (t : ℕ) (c : Control) (code : List Instruction)
     (d : Instruction) (shows : IsControl p c s) (enabled : is_enabled p s t ≡ true)

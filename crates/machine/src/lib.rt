@@ -10,7 +10,7 @@
 //!
 //! - [`Machine::start`] shows the initial state. It alone takes memory.
 //! - [`Machine::run`] shows the state after a thread's step, or further ones while the same threads
-//!   stay enabled.
+//!   stay enabled, or any.
 //! - [`Machine::enabled`], [`Machine::kind`], [`Machine::variables`] and
 //!   [`Machine::sleep_set_after`] answer what the definitions say of the state.
 //! - [`Machine::restore`] shows a state again of which a [`Control`] and its values were copied.
@@ -24,4 +24,4 @@ mod machine;
 mod touch;
 
 pub use crate::control::Control;
-pub use crate::machine::{Machine, Run, Shape};
+pub use crate::machine::{Machine, Reach, Run, Shape};

@@ -50,15 +50,22 @@ pub struct Shape {
     pub(crate) touches: Touches,
 }
 
+/// How far a run of a thread may go.
+#[derive(Clone, Copy, Debug)]
+pub struct Reach {
+    /// Whether steps may follow the first one, as where no other thread may step while this can.
+    pub further: bool,
+    /// Whether they may, too, where other threads are enabled than after the first step.
+    pub heedless: bool,
+}
+
 /// What a run of a thread came to.
 #[derive(Clone, Copy, Debug)]
 pub struct Run {
     /// How many steps were taken, at least one.
     pub steps: u32,
-    /// The threads that were enabled after each step but the last.
+    /// The threads that were enabled after each step but the last, unless the run is heedless.
     pub among: Mask,
-    /// The threads that are enabled after the last step.
-    pub enabled: Mask,
 }
 
 // The most locals that a thread of a program has.
@@ -133,12 +140,11 @@ impl Machine {
         Ok(machine)
     }
 
-    /// Takes a step of an enabled thread and, where `alone` is true, further steps of it, while it
-    /// is enabled and the same threads are enabled as after its first step. A thread is `alone`
-    /// where no other may step while it can, as at the bound. Answers how many steps were taken,
-    /// and which threads were enabled. Takes no memory.
+    /// Takes a step of an enabled thread and, as far as `reach` says, further steps of it, while it
+    /// is enabled and the same threads are enabled as after its first step, or any. Answers how
+    /// many steps were taken, and which threads were enabled. Takes no memory.
     #[inline(always)]
-    pub fn run(&mut self, program: &Program, thread: u8, alone: bool) -> Run
+    pub fn run(&mut self, program: &Program, thread: u8, reach: Reach) -> Run
         requires { (s : Snapshot) × Shows program.now self.old s
             × (is_enabled program.now s thread ≡ true) }
         ensures shows { (s : Snapshot) → Shows program.now self.old s
@@ -147,19 +153,20 @@ impl Machine {
             (state_after program.now s (replicate result.steps thread)) }
         ensures some { 1 ≤ result.steps }
         ensures few { result.steps ≤ 2 * INSTRUCTIONS }
-        ensures one { alone ≡ false → result.steps ≡ 1 }
+        ensures one { reach.further ≡ false → result.steps ≡ 1 }
+        ensures enabled { (s : Snapshot) → Shows program.now self.old s
+            → is_enabled program.now s thread ≡ true → (k : ℕ) → k < result.steps → is_enabled
+            program.now (state_after program.now s (replicate k thread)) thread ≡ true }
         ensures among { (s : Snapshot) → Shows program.now self.old s
-            → is_enabled program.now s thread ≡ true
+            → is_enabled program.now s thread ≡ true → reach.heedless ≡ false
             → (k : ℕ) → 1 ≤ k → k < result.steps → HasEnabled result.among program.now
             (state_after program.now s (replicate k thread)) }
-        ensures on { 1 < result.steps → has result.among thread ≡ true }
-        ensures enabled { result.enabled ≡ self.new.control.enabled }
         ensures size { length self.new.values.items ≡ length self.old.values.items }
         ensures shape { self.new.shape ≡ self.old.shape }
     {
         let values = self.values.as_mut_slice();
         self.control
-            .run_on_values(values, program, thread, alone, &self.shape)
+            .run_on_values(values, program, thread, reach, &self.shape)
     }
 
     /// The set of the enabled threads.

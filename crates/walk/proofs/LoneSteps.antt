@@ -149,6 +149,15 @@ pub and_right : (a b : Bool) → (a && b) ≡ true → b ≡ true
 and_right true b h = h
 and_right false b h = absurd (false≢true h)
 
+pub or_left : (a b : Bool) → (a || b) ≡ false → a ≡ false
+or_left true b h = h
+or_left false b h = refl
+
+pub left_so : (a b : Bool) → (a || not b) ≡ true → b ≡ true → a ≡ true
+left_so true b h on = refl
+left_so false true h on = h
+left_so false false h on = on
+
 pub at_bound_is : (mode : Mode) (n : Node) → at_bound mode n ≡ true → IsAtBound mode n
 at_bound_is (Bounded bound) n h = grind (arith, nat_tests, h)
 at_bound_is Reduced n h = absurd (false≢true h)

@@ -113,6 +113,12 @@ pub run_enabled : (p : Program) (w : List ℕ) (t k : ℕ) (e : Mask)
     → HasEnabled e p (state_at p (w ++ replicate k t))
 run_enabled p w t k e h = subst (HasEnabled e p) (sym (state_over p (start p) w (replicate k t))) h
 
+pub run_on : (p : Program) (w : List ℕ) (t k : ℕ)
+    → is_enabled p (state_after p (state_at p w) (replicate k t)) t ≡ true
+    → is_enabled p (state_at p (w ++ replicate k t)) t ≡ true
+run_on p w t k h = subst (λ (s : Snapshot). is_enabled p s t ≡ true)
+    (sym (state_over p (start p) w (replicate k t))) h
+
 -- the way after it
 pub path_extended : (p : Program) (old new : Path) (t n : ℕ) → IsPath p old
     → 0 < length (used_frames old) → is_enabled p (state_at p old.steps.items) t ≡ true

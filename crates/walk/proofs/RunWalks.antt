@@ -1,8 +1,9 @@
 -- A walk along a run: at each node between its steps those of the other threads are put off.
 use Rattle.std.proofs.Common.{◌≡◌, ◌≢◌, ℕ, zero, suc, ◌+◌, ◌-◌, ◌<◌, ◌≤◌, Bool, true, false, ◌&&◌, ◌||◌, not}
-use Rattle.std.proofs.Common.{List, [], ◌∷◌, ◌++◌, length, take, map, replicate, Some}
+use Rattle.std.proofs.Common.{List, [], ◌∷◌, ◌++◌, length, take, map, replicate, Some, nat_eq}
 use Rattle.std.proofs.Common.{get_or, refl, ap, ◌∙◌, sym, subst, arith, ◌⊎◌, inl, inr}
-use Rattle.std.proofs.lemmas.Bool.{false≢true, cases_lt}
+use Rattle.std.proofs.lemmas.Bool.{false≢true, cases_lt, not-true}
+use Rattle.std.proofs.lemmas.Bool.Decides.{nat_tests}
 use Rattle.std.proofs.lemmas.List.{take_all, take_more, append-nil, length-append}
 use Rattle.std.proofs.lemmas.List.{length-replicate}
 use Rattle.std.specs.declared.alloc.Global.{Global}
@@ -10,14 +11,16 @@ use Rattle.std.specs.declared.vec.Vec.{Vec}
 use Rattle.guest_code.specs.Program.{Program}
 use Rattle.semantics.specs.declared.mask.Mask.{Mask}
 use Rattle.semantics.specs.Ends.{is_empty}
-use Rattle.semantics.specs.Machine.{Snapshot, start}
-use Rattle.semantics.specs.Mask.{has, members_from}
+use Rattle.semantics.specs.Machine.{Snapshot, start, is_enabled}
+use Rattle.semantics.specs.Mask.{has, members_from, mask_of, HasEnabled}
+use Rattle.guest_code.specs.declared.limits.TheConstants.{THREADS}
 use Rattle.semantics.specs.Reachable.{IsOf}
 use Rattle.semantics.specs.Work.{work}
-use Rattle.semantics.proofs.WorkFalls.{work-step}
+use Rattle.semantics.proofs.Masks.{has-mask_of, has-above, mask_of-fits}
+use Rattle.semantics.proofs.WorkFalls.{work-step, disabled_past}
 use Rattle.schedules.proofs.UnfoldingUnderPrefix.{state_after-push}
 use Rattle.machine.specs.declared.machine.Run.{Run}
-use Rattle.summary.specs.Summaries.{SummaryView, with_beyond}
+use Rattle.summary.specs.Summaries.{with_beyond}
 use Rattle.items.specs.declared.mode.Mode.{Mode}
 use Rattle.items.specs.declared.mode.Mode.TheVariants.{Bounded, Reduced}
 use Rattle.items.specs.Items.{ItemView}
@@ -26,7 +29,7 @@ use Rattle.items.specs.Children.{child_of, mask_after, cost_of, costs}
 use Rattle.items.proofs.Turns.{turns_more}
 use Rattle.walk.specs.declared.found.Found.{Found}
 use Rattle.walk.specs.declared.path.Path.{Path}
-use Rattle.walk.specs.inner.Paths.{used_frames, state_at, IsNode, IsPath}
+use Rattle.walk.specs.inner.Paths.{used_frames, state_at, IsNode, IsPath, ReachesNode}
 use Rattle.walk.specs.inner.WalkerInvariant.{item_of, here, left_above, at_bound, open_here}
 use Rattle.walk.specs.inner.WalkerInvariant.{open_below, turns_from, turns_into, IsPlace, IsShared}
 use Rattle.walk.specs.inner.WalkerInvariant.{HasPut, IsWalkedOn, IsSearch, IsAlong, IsExtended}
@@ -38,14 +41,15 @@ use Rattle.walk.proofs.LoneSteps.{and_left, and_right, at_bound_is, lone_walked}
 
 -- the node after the first step is the child to which the branch was taken
 
-first_step : (p : Program) (mode : Mode) (old new : Path) (u : ℕ) (asleep : Mask) (run : Run)
-    → IsExtended p mode old new u asleep run
+first_step : {heedless : Bool} (p : Program) (mode : Mode) (old new : Path) (u : ℕ) (asleep : Mask)
+    (run : Run) → IsExtended p mode old new u asleep heedless run
     → take (length old.steps.items + 1) new.steps.items ≡ old.steps.items ++ u ∷ []
 first_step p mode old new u asleep run h =
     run_take old.steps.items new.steps.items u run.steps 1 h.steps h.some
 
-first_item : (p : Program) (mode : Mode) (old new : Path) (u : ℕ) (asleep : Mask) (run : Run)
-    → IsExtended p mode old new u asleep run → asleep ≡ mask_after mode (here p old) u
+first_item : {heedless : Bool} (p : Program) (mode : Mode) (old new : Path) (u : ℕ) (asleep : Mask)
+    (run : Run) → IsExtended p mode old new u asleep heedless run
+    → asleep ≡ mask_after mode (here p old) u
     → item_of p (take (length old.steps.items + 1) new.steps.items) new.node
     ≡ child_of mode (here p old) u
 first_item p mode old new u asleep run h mask = λ k. record {
@@ -54,9 +58,10 @@ first_item p mode old new u asleep run h mask = λ k. record {
   mask = (h.asleep ∙ mask) k;
 }
 
-pub along_begun : {b : Found} (mode : Mode) (i : ItemView) (old new : Path) (f : Found) (u : ℕ)
-    (asleep : Mask) (run : Run) → IsSearch b mode i old f (open_below mode i.program old u)
-    → IsExtended i.program mode old new u asleep run
+pub along_begun : {b : Found} {heedless : Bool} (mode : Mode) (i : ItemView) (old new : Path)
+    (f : Found) (u : ℕ) (asleep : Mask) (run : Run)
+    → IsSearch b mode i old f (open_below mode i.program old u)
+    → IsExtended i.program mode old new u asleep heedless run
     → asleep ≡ mask_after mode (here i.program old) u
     → IsAlong b mode i new f (length old.steps.items + 1)
 along_begun {b} mode i old new f u asleep run h extended mask = record {
@@ -99,35 +104,19 @@ along_next {b} (Bounded bound) i c t f g e past u place h more node of last asle
     }
 
 -- there is less to do at the next
-pub along_falls : (p : Program) (t : Path) (e : Mask) (u place : ℕ)
+pub along_falls : (p : Program) (t : Path) (u place : ℕ)
     → take (place + 1) t.steps.items ≡ take place t.steps.items ++ u ∷ []
-    → IsNode p (take place t.steps.items) e t.node → has e u ≡ true
+    → is_enabled p (state_at p (take place t.steps.items)) u ≡ true
     → cost_of (item_of p (take (place + 1) t.steps.items) t.node)
     ≤ cost_of (item_of p (take place t.steps.items) t.node)
-along_falls p t e u place more node on =
+along_falls p t u place more on =
     let w = take place t.steps.items in
     let falls : work p (state_at p (take (place + 1) t.steps.items)) < work p (state_at p w) =
     subst (λ (s : Snapshot). work p s < work p (state_at p w))
     (sym (ap (state_at p) more ∙ state_after-push p (start p) w u))
-    (work-step p (state_at p w) u (sym (node.enabled u) ∙ on)) in
+    (work-step p (state_at p w) u on) in
     turns_more (work p (state_at p (take (place + 1) t.steps.items))) (work p (state_at p w))
     (omega (arith, falls))
-
--- what is only noted is noted once
-
-pub record IsNoted (f : Found) (past : Mask) : Type 0 where
-  pub unlisted : f.lists ≡ false
-  pub beyond : (f.part.beyond || not (is_empty (members_from past 0))) ≡ f.part.beyond
-
-pub noted_once : (f g : SummaryView) (more : Bool) → g ≡ with_beyond f (f.beyond || more)
-    → (g.beyond || more) ≡ g.beyond
-noted_once f g more same = (λ k. (ap (λ (s : SummaryView). s.beyond) same k || more))
-    ∙ (twice f.beyond more ∙ sym (ap (λ (s : SummaryView). s.beyond) same))
-  where
-    twice : (a b : Bool) → ((a || b) || b) ≡ (a || b)
-    twice true b = refl
-    twice false true = refl
-    twice false false = refl
 
 -- where the run ends
 pub along_done : {b : Found} (mode : Mode) (i : ItemView) (t new : Path) (f : Found) (place : ℕ)
@@ -146,8 +135,8 @@ along_done {b} mode i t new f place h long at o room =
     all : take place t.steps.items ≡ t.steps.items
     all = take_all place t.steps.items (omega (arith, long))
 
-pub along_turns : (mode : Mode) (p : Program) (old t new : Path) (u : ℕ) (asleep : Mask)
-    (run : Run) (place : ℕ) → IsExtended p mode old t u asleep run
+pub along_turns : {heedless : Bool} (mode : Mode) (p : Program) (old t new : Path) (u : ℕ)
+    (asleep : Mask) (run : Run) (place : ℕ) → IsExtended p mode old t u asleep heedless run
     → asleep ≡ mask_after mode (here p old) u → old.base ≤ length (used_frames old)
     → cost_of (item_of p (take place t.steps.items) t.node)
     ≤ cost_of (item_of p (take (length old.steps.items + 1) t.steps.items) t.node)
@@ -165,8 +154,8 @@ along_turns mode p old t new u asleep run place extended mask within falls long 
     omega (arith, falls, first, last, same, left, frames)
 
 -- the way is longer by then
-pub run_further : (p : Program) (mode : Mode) (old new : Path) (u : ℕ) (asleep : Mask) (run : Run)
-    → IsExtended p mode old new u asleep run
+pub run_further : {heedless : Bool} (p : Program) (mode : Mode) (old new : Path) (u : ℕ)
+    (asleep : Mask) (run : Run) → IsExtended p mode old new u asleep heedless run
     → length new.steps.items ≡ length old.steps.items + run.steps
 run_further p mode old new u asleep run h =
     let a = ap (λ (w : List ℕ). length w) h.steps in
@@ -175,8 +164,8 @@ run_further p mode old new u asleep run h =
     omega (arith, a, b, d)
 
 -- at a place between its steps
-module _ (p : Program) (mode : Mode) (old t : Path) (u : ℕ) (asleep : Mask) (run : Run)
-    (place : ℕ) (path : IsPath p t) (h : IsExtended p mode old t u asleep run)
+module _ {heedless : Bool} (p : Program) (mode : Mode) (old t : Path) (u : ℕ) (asleep : Mask)
+    (run : Run) (place : ℕ) (path : IsPath p t) (h : IsExtended p mode old t u asleep heedless run)
     (from : length old.steps.items + 1 ≤ place) (inside : place < length t.steps.items) where
   abbrev gap : ℕ
   gap = place - length old.steps.items
@@ -198,15 +187,32 @@ module _ (p : Program) (mode : Mode) (old t : Path) (u : ℕ) (asleep : Mask) (r
       ∙ (run_take old.steps.items t.steps.items u run.steps (gap + 1) h.steps (omega (arith, few))
       ∙ (run_push old.steps.items u gap ∙ sym (ap (λ (w : List ℕ). w ++ u ∷ []) steps_at)))
 
-  pub node_at : IsNode p (take place t.steps.items) run.among t.node
-  node_at = subst (λ (w : List ℕ). IsNode p w run.among t.node) (sym steps_at)
+  pub reaches_at : ReachesNode p (take place t.steps.items) t.node
+  reaches_at = subst (λ (w : List ℕ). ReachesNode p w t.node) (sym steps_at)
       (h.between gap some few)
 
-  pub of_at : IsOf p (state_at p (take place t.steps.items))
-  of_at = reached_of p (take place t.steps.items) path.well_formed node_at.reaches.runs
+  pub on_at : is_enabled p (state_at p (take place t.steps.items)) u ≡ true
+  on_at = subst (λ (w : List ℕ). is_enabled p (state_at p w) u ≡ true) (sym steps_at)
+      (h.enabled gap some few)
 
-  pub alone_at : (at_bound mode t.node && has run.among u) ≡ true
-  alone_at = h.alone (omega (arith, some, few))
+  pub among_at : heedless ≡ false → HasEnabled run.among p (state_at p (take place t.steps.items))
+  among_at off = subst (λ (w : List ℕ). HasEnabled run.among p (state_at p w)) (sym steps_at)
+      (h.among off gap some few)
+
+  pub of_at : IsOf p (state_at p (take place t.steps.items))
+  of_at = reached_of p (take place t.steps.items) path.well_formed reaches_at.runs
+
+  pub bound_at : at_bound mode t.node ≡ true
+  bound_at = h.bound (omega (arith, some, few))
+
+  -- where these are enabled
+  pub node_at : (e : Mask) → HasEnabled e p (state_at p (take place t.steps.items))
+      → IsNode p (take place t.steps.items) e t.node
+  node_at e on = record { reaches = reaches_at; enabled = on }
+
+  pub alone_at : (e : Mask) → HasEnabled e p (state_at p (take place t.steps.items))
+      → (at_bound mode t.node && has e u) ≡ true
+  alone_at e on = λ k. bound_at k && (on u ∙ on_at) k
 
 -- the path where but for its steps nothing changed, and they are the same
 pub same_turned : (t l : Path) (steps : Vec ℕ Global) → l ≡ record t { steps = l.steps }
@@ -235,34 +241,105 @@ same_path p t l steps same items h =
     path_same p t (record l { steps = steps }) h o.steps o.last o.used o.machine o.size o.frames
     o.words (same_room p t l same h)
 
--- from a place between, where all that is put off is noted already
-module _ (mode : Mode) (i c : ItemView) (old t : Path) (u : ℕ) (asleep : Mask) (run : Run)
-    (path : IsPath i.program t) (h : IsExtended i.program mode old t u asleep run)
-    (mask : t.node.asleep ≡ mask_after mode c u) (past : Mask) (out : has past u ≡ false)
-    (others : (v : ℕ) → v ≢ u → has past v ≡ has run.among v) where
-  pub along_rest : {b : Found} (f : Found) (n place : ℕ) → length old.steps.items + 1 ≤ place
-      → place + n ≡ length t.steps.items → (0 < n → IsNoted f past) → IsAlong b mode i t f place
-      → IsAlong b mode i t f (length t.steps.items)
+-- what the path of a place is extended to
+pub extended_place : {heedless : Bool} (p : Program) (mode : Mode) (old new : Path) (u : ℕ)
+    (asleep : Mask) (run : Run)
+    → IsPlace p old → IsPath p new → IsExtended p mode old new u asleep heedless run
+    → IsPlace p new
+extended_place p mode old new u asleep run h path e = record {
+  path = path;
+  some = let s = h.some in let k = e.base in omega (arith, s, k);
+  base = let b = h.base in let k = e.base in let d = ap (λ fs. length fs) e.frames in
+      omega (arith, b, k, d);
+}
+
+-- at a node between, all that is put off is noted already: what a thread is enabled beside
+pub record AreNoted (p : Program) (w : List ℕ) (u : ℕ) (f : Found) : Type 0 where
+  pub on : Mask
+  pub past : Mask
+  pub enabled : HasEnabled on p (state_at p w)
+  pub out : has past u ≡ false
+  pub others : (v : ℕ) → v ≢ u → has past v ≡ has on v
+  pub unlisted : f.lists ≡ false
+  pub beyond : (f.part.beyond || not (is_empty (members_from past 0))) ≡ f.part.beyond
+
+-- which is so of all sets where it is noted and none is listed
+pub noted_all : (p : Program) (w : List ℕ) (u : ℕ) (f : Found) → IsOf p (state_at p w)
+    → (not f.lists && f.part.beyond) ≡ true → AreNoted p w u f
+noted_all p w u f of h = record {
+  on = mask_of is_on;
+  past = mask_of is_other;
+  enabled = all is_on off;
+  out = all is_other outside u ∙ (ap (λ b. is_on u && not b) (let z : nat_eq u u ≡ true =
+      grind (arith, nat_tests) in z) ∙ none (is_on u));
+  others = λ v ne. all is_other outside v ∙ (ap (λ b. is_on v && not b) (let z : nat_eq v u ≡ false =
+      grind (arith, nat_tests, ne) in z) ∙ (same (is_on v) ∙ sym (all is_on off v)));
+  unlisted = not-true f.lists (and_left (not f.lists) f.part.beyond h);
+  beyond = already f.part.beyond _ (and_right (not f.lists) f.part.beyond h);
+}
+  where
+    is_on : ℕ → Bool
+    is_on v = is_enabled p (state_at p w) v
+
+    is_other : ℕ → Bool
+    is_other v = is_on v && not (nat_eq v u)
+
+    off : (v : ℕ) → THREADS ≤ v → is_on v ≡ false
+    off v far = disabled_past p (state_at p w) v (omega (arith, of.few, far))
+
+    outside : (v : ℕ) → THREADS ≤ v → is_other v ≡ false
+    outside v far = ap (λ b. b && not (nat_eq v u)) (off v far)
+
+    all : (g : ℕ → Bool) → ((v : ℕ) → THREADS ≤ v → g v ≡ false) → (v : ℕ)
+        → has (mask_of g) v ≡ g v
+    all g far v = elim (cases_lt v THREADS) [
+      | inl l ↦ has-mask_of g v l
+      | inr m ↦ has-above (mask_of g) v (mask_of-fits g) m ∙ sym (far v m)
+    ]
+
+    none : (b : Bool) → (b && false) ≡ false
+    none true = refl
+    none false = refl
+
+    same : (b : Bool) → (b && true) ≡ b
+    same true = refl
+    same false = refl
+
+    already : (a b : Bool) → a ≡ true → (a || b) ≡ a
+    already true b is = refl
+    already false b is = absurd (false≢true is)
+
+-- from a place between to the run's end
+module _ {heedless : Bool} (mode : Mode) (i : ItemView) (old t : Path) (u : ℕ) (asleep : Mask)
+    (run : Run) (path : IsPath i.program t)
+    (h : IsExtended i.program mode old t u asleep heedless run)
+    (mask : asleep ≡ mask_after mode (here i.program old) u) where
+  along_rest : {b : Found} (f : Found) (n place : ℕ) → length old.steps.items + 1 ≤ place
+      → place + n ≡ length t.steps.items
+      → ((k : ℕ) → place ≤ k → k < length t.steps.items
+      → AreNoted i.program (take k t.steps.items) u f)
+      → IsAlong b mode i t f place → IsAlong b mode i t f (length t.steps.items)
   along_rest {b} f zero place from to seen along = subst (λ (k : ℕ). IsAlong b mode i t f k)
       (let e : place ≡ length t.steps.items = omega (arith, to) in e) along
   along_rest {b} f (suc n) place from to seen along =
       let inside : place < length t.steps.items = omega (arith, to) in
-      let once = seen (omega arith) in
-      along_rest f n (place + 1) (omega (arith, from)) (omega (arith, to)) (λ more. once)
-      (along_next mode i c t f f run.among past u place along
+      let known = seen place (omega arith) inside in
+      along_rest f n (place + 1) (omega (arith, from)) (omega (arith, to))
+      (λ k later. seen k (omega (arith, later)))
+      (along_next mode i (here i.program old) t f f known.on known.past u place along
       (more_at i.program mode old t u asleep run place path h from inside)
-      (node_at i.program mode old t u asleep run place path h from inside)
-      (of_at i.program mode old t u asleep run place path h from inside) h.last mask
-      (alone_at i.program mode old t u asleep run place path h from inside) out others
-      (sym (ap (with_beyond f.part) once.beyond)) refl
+      (node_at i.program mode old t u asleep run place path h from inside known.on known.enabled)
+      (of_at i.program mode old t u asleep run place path h from inside) h.last (h.asleep ∙ mask)
+      (alone_at i.program mode old t u asleep run place path h from inside known.on known.enabled)
+      known.out known.others (sym (ap (with_beyond f.part) known.beyond)) refl
       (record {
         lists = refl;
-        deferred = sym ((λ k. f.deferred ++ listed_if (once.unlisted k)
-            (map (λ v. take place t.steps.items ++ v ∷ []) (members_from past 0)))
+        deferred = sym ((λ k. f.deferred ++ listed_if (known.unlisted k)
+            (map (λ v. take place t.steps.items ++ v ∷ []) (members_from known.past 0)))
             ∙ append-nil f.deferred);
       }) along.shared)
 
-  pub falls_rest : (n place : ℕ) → length old.steps.items + 1 ≤ place
+  falls_rest : (n place : ℕ) → length old.steps.items + 1 ≤ place
       → place + n ≡ length t.steps.items
       → cost_of (item_of i.program (take (length t.steps.items) t.steps.items) t.node)
       ≤ cost_of (item_of i.program (take place t.steps.items) t.node)
@@ -272,34 +349,47 @@ module _ (mode : Mode) (i c : ItemView) (old t : Path) (u : ℕ) (asleep : Mask)
       omega (arith, same)
   falls_rest (suc n) place from to =
       let inside : place < length t.steps.items = omega (arith, to) in
-      let less = along_falls i.program t run.among u place
+      let less = along_falls i.program t u place
       (more_at i.program mode old t u asleep run place path h from inside)
-      (node_at i.program mode old t u asleep run place path h from inside)
-      (and_right (at_bound mode t.node) (has run.among u)
-      (alone_at i.program mode old t u asleep run place path h from inside)) in
+      (on_at i.program mode old t u asleep run place path h from inside) in
       let rest = falls_rest n (place + 1) (omega (arith, from)) (omega (arith, to)) in
       omega (arith, less, rest)
 
--- what the path of a place is extended to
-pub extended_place : (p : Program) (mode : Mode) (old new : Path) (u : ℕ) (asleep : Mask)
-    (run : Run)
-    → IsPlace p old → IsPath p new → IsExtended p mode old new u asleep run → IsPlace p new
-extended_place p mode old new u asleep run h path e = record {
-  path = path;
-  some = let s = h.some in let k = e.base in omega (arith, s, k);
-  base = let b = h.base in let k = e.base in let d = ap (λ fs. length fs) e.frames in
-      omega (arith, b, k, d);
-}
+  -- so the walk comes to its end
+  module _ (new : Path) (same : new ≡ record t { steps = new.steps })
+      (steps : new.steps.items ≡ t.steps.items) (place : ℕ)
+      (from : length old.steps.items + 1 ≤ place) (to : place ≤ length t.steps.items) where
+    pub run_searched : {b : Found} (f g : Found)
+        → IsSearch b mode i old f (open_below mode i.program old u)
+        → (IsAlong b mode i t f (length old.steps.items + 1) → IsAlong b mode i t g place)
+        → ((k : ℕ) → place ≤ k → k < length t.steps.items
+        → AreNoted i.program (take k t.steps.items) u g)
+        → IsSearch b mode i new g (open_here mode i.program new)
+    run_searched f g begun along seen = along_done mode i t new g (length t.steps.items)
+        (along_rest g (length t.steps.items - place) place from (omega (arith, to)) seen
+        (along (along_begun mode i old t f u asleep run begun h mask))) refl
+        (extended_place i.program mode old t u asleep run begun.place path h)
+        (same_turned t new new.steps same steps) (same_room i.program t new same path)
+
+    pub run_falls : old.base ≤ length (used_frames old)
+        → cost_of (item_of i.program (take place t.steps.items) t.node)
+        ≤ cost_of (item_of i.program (take (length old.steps.items + 1) t.steps.items) t.node)
+        → turns_from mode i.program new ≤ turns_into mode i.program old u
+    run_falls within falls = along_turns mode i.program old t new u asleep run
+        (length t.steps.items) h mask within
+        (let less = falls_rest (length t.steps.items - place) place from (omega (arith, to)) in
+        omega (arith, less, falls)) refl (same_turned t new new.steps same steps)
 
 -- without a bound it is one step
 
-pub way_more : (p : Program) (old new : Path) (w : List ℕ) (place : ℕ) (asleep : Mask) (run : Run)
-    → IsExtended p Reduced old new (get_or w place 0) asleep run → old.steps.items ≡ take place w
+pub way_more : {heedless : Bool} (p : Program) (old new : Path) (w : List ℕ) (place : ℕ)
+    (asleep : Mask) (run : Run)
+    → IsExtended p Reduced old new (get_or w place 0) asleep heedless run → old.steps.items ≡ take place w
     → place < length w → new.steps.items ≡ take (place + 1) w
 way_more p old new w place asleep run h same inside =
     h.steps ∙ ((λ k. same k ++ replicate (one (cases_lt 1 run.steps) k) (get_or w place 0))
     ∙ sym (take_more w place 0 inside))
   where
     one : (1 < run.steps) ⊎ (run.steps ≤ 1) → run.steps ≡ 1
-    one (inl more) = absurd (false≢true (h.alone more))
+    one (inl more) = absurd (false≢true (h.bound more))
     one (inr few) = let some = h.some in omega (arith, some, few)

@@ -1,7 +1,7 @@
 //! The path of a walk: the steps from the start of a program to a node, and a stack of frames that
 //! copy the states of nodes on the way.
 
-ghost use Rattle.std.specs.Prelude.{◌≡◌, ◌+◌, ◌*◌, ◌-◌, ◌<◌, ◌≤◌, ◌^◌, ◌++◌, ℕ, true, None, IfOk, OnOk, length, take, replicate, vec_len, vec_capacity};
+ghost use Rattle.std.specs.Prelude.{◌≡◌, ◌+◌, ◌*◌, ◌-◌, ◌<◌, ◌≤◌, ◌^◌, ◌++◌, ℕ, true, false, None, IfOk, OnOk, length, take, replicate, vec_len, vec_capacity};
 ghost use Rattle.semantics.specs.Machine.{start, is_enabled};
 ghost use Rattle.schedules.specs.Schedules.{runs};
 ghost use Rattle.semantics.specs.Mask.{one_if};
@@ -13,7 +13,7 @@ use guest_code::laws::programs_are_well_formed;
 use guest_code::limits::INSTRUCTIONS;
 use guest_code::program::Program;
 use items::mode::Mode;
-use machine::{Control, Machine, Run};
+use machine::{Control, Machine, Reach, Run};
 use prefix_list::shared_len;
 use semantics::mask::Mask;
 use std::alloc::{AllocError, Global};
@@ -126,20 +126,23 @@ fn grow_words(words: &mut Vec<i64>, count: usize) -> Result<(), AllocError>
     Ok(())
 }
 
-// Appends a run to a path's steps, which have room for it: `count` steps of one thread. A long run
-// is filled in at once, which a short one doesn't repay.
+// Appends a run to a path's steps, which have room for it: `count` steps of one thread, one unless
+// it may go `further`. A long run is filled in at once, which a short one doesn't repay.
 #[inline(always)]
-fn push_run(steps: &mut Vec<u8>, thread: u8, count: u32)
-    requires some { 1 ≤ count }
+fn push_run(steps: &mut Vec<u8>, thread: u8, further: bool, count: u32)
+    requires one { further ≡ false → count ≡ 1 }
     requires room { vec_len steps.old + count ≤ vec_capacity steps.old }
     ensures { steps.new.items ≡ steps.old.items ++ replicate count thread }
 {
+    if !further {
+        steps.push_reserved(thread);
+        return;
+    }
     if count >= LONG_RUN {
         let _ = steps.resize(steps.len() + count as usize, thread);
         return;
     }
-    steps.push_reserved(thread);
-    for _ in 1..count {
+    for _ in 0..count {
         steps.push_reserved(thread);
     }
 }
@@ -236,8 +239,8 @@ impl Path {
     /// Extends the path by a run of an enabled thread, and returns the run. It is one step, after
     /// which the threads `asleep` sleep. Where the node after it is at the mode's bound, further
     /// steps of the thread follow, `2 * INSTRUCTIONS` in all at most, as long as it and the same
-    /// other threads are enabled: a step of another would pass the bound. Fails where memory runs
-    /// out; no step is taken then.
+    /// other threads are enabled, or any where the run is `heedless`: a step of another would pass
+    /// the bound. Fails where memory runs out; no step is taken then.
     #[inline(always)]
     pub fn extend(
         &mut self,
@@ -245,6 +248,7 @@ impl Path {
         mode: Mode,
         thread: u8,
         asleep: Mask,
+        heedless: bool,
     ) -> Result<Run, AllocError>
         requires path { IsPath program.now self.old }
         requires frames { 0 < length (used_frames self.old) }
@@ -252,14 +256,16 @@ impl Path {
             (state_at program.now self.old.steps.items) thread ≡ true }
         ensures path { IsPath program.now self.new }
         ensures extended { IfOk result
-            (IsExtended program.now mode self.old self.new thread asleep) }
+            (IsExtended program.now mode self.old self.new thread asleep heedless) }
     {
         self.steps.reserve(2 * INSTRUCTIONS)?;
         let enabled = self.machine.enabled();
         self.node.step(enabled, thread, asleep);
-        let alone = self.node.is_at_bound(mode);
-        let run = self.machine.run(program, thread, alone);
-        push_run(&mut self.steps, thread, run.steps);
+        let further = self.node.is_at_bound(mode);
+        let heedless = further & heedless;
+        let reach = Reach { further, heedless };
+        let run = self.machine.run(program, thread, reach);
+        push_run(&mut self.steps, thread, further, run.steps);
         Ok(run)
     }
 
@@ -303,7 +309,13 @@ impl Path {
         ensures frames { OnOk result (0 < self.new.depth) }
         ensures steps { OnOk result (self.new.steps.items ≡ take (place + 1) schedule.now) }
     {
-        self.extend(program, Mode::Reduced, schedule[place], Mask::empty())?;
+        self.extend(
+            program,
+            Mode::Reduced,
+            schedule[place],
+            Mask::empty(),
+            false,
+        )?;
         if place + 1 < schedule.len() && place % 2 == 1 {
             self.push_frame(program)
         } else {

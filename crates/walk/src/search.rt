@@ -126,15 +126,12 @@ impl Found {
         self.defer_all(steps, place, past, first)
     }
 
-    // Before which place to stop, where steps are deferred at a first place and at those from
-    // `second` on before `end`: at `end` where deferred prefixes are listed. Else it is only noted
-    // that there are some, for which the first is enough: at `second`, or `end` if that is less.
-    fn deferral_end(&self, second: usize, end: usize) -> usize
-        ensures few { result ≤ end }
-        ensures listed { self.now.lists ≡ true → result ≡ end }
-        ensures noted { self.now.lists ≡ false → result ≡ min second end }
+    // Whether nothing is left to note of what is deferred: it isn't listed, and it is known that
+    // there is something.
+    fn has_noted_all(&self) -> bool
+        ensures { result ≡ (not self.now.lists && self.now.part.beyond) }
     {
-        if self.lists { end } else { second.min(end) }
+        !self.lists & self.part.beyond()
     }
 
     // Whether fewer schedules were tried than `limit`.
@@ -288,8 +285,9 @@ impl Path {
     }
 
     // Takes a run of a thread whose step from the node is still to be tried: that step, and, if it
-    // leads to the bound, further ones, as long as the same threads are enabled. From the nodes
-    // within the run, steps of other threads would pass the bound: they are deferred.
+    // leads to the bound, further ones, as long as the same threads are enabled, or any if nothing
+    // is left to note of others. From the nodes within the run, their steps would pass the bound:
+    // they are deferred.
     #[inline(always)]
     fn take_run(
         &mut self,
@@ -314,10 +312,14 @@ impl Path {
         let program = item.program();
         let asleep = self.sleepers(program, mode, thread);
         let from = self.steps.len();
-        let run = self.extend(program, mode, thread, asleep)?;
+        let heedless = found.has_noted_all();
+        let run = self.extend(program, mode, thread, asleep, heedless)?;
+        let settled = heedless | !self.node.is_at_bound(mode);
+        if settled {
+            return Ok(());
+        }
         let others = run.among.with(thread, false);
-        let end = found.deferral_end(from + 2, self.steps.len());
-        for place in from + 1..end {
+        for place in from + 1..self.steps.len() {
             found.defer(&mut self.steps, place, others)?;
         }
         Ok(())

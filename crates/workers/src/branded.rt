@@ -99,7 +99,7 @@ impl<N: SearchBrand> BrandedBook<N> {
     }
 
     /// Settles the walks that a worker keeps of a round, all at once; the worker keeps none then.
-    /// They are given up, that is, their items stay open, where these aren't open in the order of
+    /// They are given up, and the book stays as it is, where their items aren't open in the order of
     /// the walks, or where the book lists deferred prefixes and the walks don't. Fails where memory
     /// runs out; the walks are given up then.
     pub fn settle(
@@ -114,7 +114,8 @@ impl<N: SearchBrand> BrandedBook<N> {
         ensures settled { let ks = worker.old.places.items in
             (f : HaveFound N.of.program N.mode round.now.items.items ks worker.old.found) →
             OnOk result (HaveSettled self.old f.walks self.new
-            ⊎ AreNotTaken self.old round.now.items.items ks worker.old.found) }
+            ⊎ ((self.new ≡ self.old)
+            × AreNotTaken self.old round.now.items.items ks worker.old.found)) }
         ensures refused { OnErr result (self.new ≡ self.old) }
         ensures walker { worker.new.walker ≡ worker.old.walker }
         ensures places { worker.new.places.items ≡ [] }

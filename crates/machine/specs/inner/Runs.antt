@@ -1,5 +1,5 @@
 -- Runs: steps of one thread, with none of another between them.
-use Rattle.std.specs.Prelude.{◌≡◌, ◌≢◌, ℕ, ◌+◌, ◌<◌, ◌≤◌, ℤ, true, List, length, take, replicate, All}
+use Rattle.std.specs.Prelude.{◌≡◌, ◌≢◌, ℕ, ◌+◌, ◌<◌, ◌≤◌, ℤ, Bool, true, false, List, length, take, replicate, All}
 use Rattle.guest_code.specs.Program.{Program, code_of, LocalsBelow}
 use Rattle.semantics.specs.declared.mask.Mask.{Mask}
 use Rattle.semantics.specs.declared.state.Status.TheVariants.{Running}
@@ -17,9 +17,10 @@ use Rattle.machine.specs.inner.Steps.{HasShared, IsPassed}
 abbrev pub run_to : Program → Snapshot → ℕ → ℕ → Snapshot
 run_to p s t n = state_after p s (replicate n t)
 
--- the second set has the thread, and of the others those of the first
-abbrev pub IsSetBut : ℕ → Mask → Mask → Type 0
-IsSetBut t on among = (has among t ≡ true) × ((u : ℕ) → u ≢ t → has among u ≡ has on u)
+-- unless the thread is heedless, those that it runs among are itself and of the others these
+abbrev pub RunsAmong : MovingThread → Mask → Type 0
+RunsAmong m on = m.heedless ≡ false
+    → (has m.among m.thread ≡ true) × ((u : ℕ) → u ≢ m.thread → has m.among u ≡ has on u)
 
 -- thread t took its steps from s on, and is in the midst of the last one
 pub record IsGoing (p : Program) (s : Snapshot) (t : ℕ) (c : Control) (cells mine : List ℤ)
@@ -27,19 +28,19 @@ pub record IsGoing (p : Program) (s : Snapshot) (t : ℕ) (c : Control) (cells m
   pub done : ℕ
   pub steps : m.steps ≡ done + 1
   pub of : IsOf p (run_to p s t done)
-  pub enabled : is_enabled p (run_to p s t done) t ≡ true
+  pub enabled : (k : ℕ) → k < m.steps → is_enabled p (run_to p s t k) t ≡ true
   pub passed : IsPassed p (run_to p s t done) t c cells mine m.place m.status
   pub others : (u : ℕ) → u ≢ t → (thread_at (run_to p s t done) u).locals ≡ (thread_at s u).locals
-  pub between : (k : ℕ) → 1 ≤ k → k < m.steps → HasEnabled m.among p (run_to p s t k)
-  pub itself : has m.among t ≡ true
+  pub between : m.heedless ≡ false → (k : ℕ) → 1 ≤ k → k < m.steps
+      → HasEnabled m.among p (run_to p s t k)
   pub few : m.steps ≤ m.place + 1
   pub fewer : m.status ≡ Running → m.steps ≤ m.place
   pub within : m.place ≤ length (code_of p t)
   pub below : All (LocalsBelow (length mine)) (code_of p t)
 
--- a run of thread t led from s to this, and the threads that it names were enabled between its
--- steps
-pub record IsRunTo (p : Program) (s : Snapshot) (t : ℕ) (r : Run) (c : Control)
+-- a run of thread t led from s to this. Between its steps t was enabled, and, unless it was
+-- heedless, the threads that it names
+pub record IsRunTo (p : Program) (s : Snapshot) (t : ℕ) (heedless : Bool) (r : Run) (c : Control)
     (cells mine : List ℤ) : Type 0 where
   pub of : IsOf p (run_to p s t r.steps)
   pub control : IsControl p c (run_to p s t r.steps)
@@ -47,4 +48,6 @@ pub record IsRunTo (p : Program) (s : Snapshot) (t : ℕ) (r : Run) (c : Control
   pub own : mine ≡ take (length mine) (thread_at (run_to p s t r.steps) t).locals
   pub others : (u : ℕ) → u ≢ t
       → (thread_at (run_to p s t r.steps) u).locals ≡ (thread_at s u).locals
-  pub between : (k : ℕ) → 1 ≤ k → k < r.steps → HasEnabled r.among p (run_to p s t k)
+  pub enabled : (k : ℕ) → k < r.steps → is_enabled p (run_to p s t k) t ≡ true
+  pub between : heedless ≡ false → (k : ℕ) → 1 ≤ k → k < r.steps
+      → HasEnabled r.among p (run_to p s t k)

@@ -52,10 +52,7 @@ pub record IsPoised (p : Program) (s : Snapshot) (t : ℕ) (i : Instruction) (c 
 -- the thread after its step: it runs on, or it has got another status
 abbrev pub settled : List Instruction → Status → Thread → Thread
 settled code Running th = resumed code th
-settled code Ended th = with_status th Ended
-settled code Woken th = with_status th Woken
-settled code (Waiting c) th = with_status th (Waiting c)
-settled code (Stopped why) th = with_status th (Stopped why)
+settled code status th = with_status th status
 
 -- all that a step of thread t does, but for what the thread does itself after it
 pub record IsPerformed (p : Program) (s : Snapshot) (t : ℕ) (c : Control) (cells mine : List ℤ)
@@ -74,20 +71,13 @@ pub record IsPerformed (p : Program) (s : Snapshot) (t : ℕ) (c : Control) (cel
 -- where a thread goes on that got this status by the step of the instruction here
 abbrev pub place_after : Status → ℕ → ℕ
 place_after Running pc = pc + 1
-place_after Ended pc = pc
-place_after Woken pc = pc
-place_after (Waiting c) pc = pc
-place_after (Stopped why) pc = pc
+place_after _ pc = pc
 
 -- the thread that goes on here, after what it does by itself
 abbrev pub going_on : List Instruction → Status → ℕ → List ℤ → Thread
 going_on code Running pc locals =
     run_from code (record { pc = pc; locals = locals; status = Running })
-going_on code Ended pc locals = record { pc = pc; locals = locals; status = Ended }
-going_on code Woken pc locals = record { pc = pc; locals = locals; status = Woken }
-going_on code (Waiting c) pc locals = record { pc = pc; locals = locals; status = Waiting c }
-going_on code (Stopped why) pc locals =
-    record { pc = pc; locals = locals; status = Stopped why }
+going_on code status pc locals = record { pc = pc; locals = locals; status = status }
 
 -- thread t took its step at s, and goes on at this place, with these locals
 pub record IsPassed (p : Program) (s : Snapshot) (t : ℕ) (c : Control) (cells mine : List ℤ)

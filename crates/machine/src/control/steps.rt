@@ -1,8 +1,8 @@
 //! Steps and runs of a thread, on the control, the values of the variables, and its own locals.
 
-ghost use Rattle.std.specs.Prelude.{◌≡◌, ◌<◌, ◌≤◌, ◌^◌, ◌*◌, ℕ, ℤ, ◌+◌, List, take, true, false, length, slice_get, slice_index_or, slice_set, replicate, pos, Some, All, IsTrue};
+ghost use Rattle.std.specs.Prelude.{◌≡◌, ◌<◌, ◌≤◌, ◌^◌, ◌*◌, ℕ, ℤ, ◌+◌, List, take, true, false, length, slice_get, slice_index_or, slice_set, replicate, drop, pos, Some, All, IsTrue};
 ghost use Rattle.guest_code.specs.declared.limits.TheConstants.{INSTRUCTIONS};
-ghost use Rattle.semantics.specs.Mask.{has, HasEnabled};
+ghost use Rattle.semantics.specs.Mask.{HasEnabled};
 ghost use Rattle.guest_code.specs.Program.{Program, IsValid, IsValidCode, IsWellFormed, LocalsBelow, code_of};
 ghost use Rattle.guest_code.specs.declared.program.Instruction.{Instruction};
 ghost use Rattle.guest_code.specs.declared.program.Instruction.TheVariants.{Unlock, Wait, Signal, Broadcast, Release};
@@ -14,12 +14,13 @@ ghost use Rattle.semantics.specs.Reachable.{IsOf};
 ghost use Rattle.machine.specs.Refinement.{IsControl, IsState, HasObjects};
 ghost use Rattle.schedules.specs.Schedules.{state_after};
 ghost use Rattle.machine.specs.declared.control.Control.{Control};
-ghost use Rattle.semantics.specs.Turns.{IsAccessBelow};
-ghost use Rattle.machine.specs.inner.Steps.{HasShared, IsPoised, IsPerformed, IsPassed, IsStepped, IsReadyIn, Faces, place_after};
-ghost use Rattle.machine.specs.inner.Runs.{IsGoing, IsRunTo, IsSetBut};
+ghost use Rattle.semantics.specs.Turns.{IsAccessBelow, own_thread, turn_of};
+ghost use Rattle.machine.specs.inner.Parts.{IsFreeIn};
+ghost use Rattle.machine.specs.inner.Steps.{HasShared, IsPoised, IsPerformed, IsReadyIn, Faces, place_after, going_on};
+ghost use Rattle.machine.specs.inner.Runs.{IsGoing, IsRunTo, RunsAmong};
 
 use crate::control::{Control, FREE};
-use crate::machine::{Run, Shape};
+use crate::machine::{Reach, Run, Shape};
 use guest_code::limits::{COUNT, OBJECTS, THREADS};
 use guest_code::program::{Instruction, Program};
 use semantics::mask::Mask;
@@ -27,8 +28,8 @@ use semantics::state::VariableAction::{Add as Adds, Cas as Swaps, Load as Loads,
 use semantics::state::{Status, Stop, VariableAction};
 use semantics::{Landing, Turn, access, run_if_local, run_local};
 
-// A thread in the midst of a run: where it is, with which status, after how many steps, and the
-// threads that were enabled after the first of them, itself counted in.
+// A thread in the midst of a run: where it is, with which status, after how many steps, the threads
+// that were enabled after the first of them with itself, and whether it heeds no change of these.
 #[derive(Clone, Copy, Debug)]
 pub(crate) struct MovingThread {
     thread: u8,
@@ -36,6 +37,7 @@ pub(crate) struct MovingThread {
     status: Status,
     steps: u32,
     among: Mask,
+    heedless: bool,
 }
 
 // The place of a thread that has this status after its step at the instruction number `place`: the
@@ -48,16 +50,6 @@ fn place_after(status: Status, place: usize) -> usize
         Status::Running => place + 1,
         _ => place,
     }
-}
-
-// Whether a run, steps that one thread takes in a row, may have more than the first step. It may
-// where `alone` is true, so that no other thread may step while this one can, and where `status`,
-// this thread's after the first step, is `Running`: it neither waits nor has stopped.
-fn may_extend_run(alone: bool, status: Status) -> bool
-    ensures alone { alone ≡ false → result ≡ false }
-    ensures running { IsTrue result → status ≡ Running }
-{
-    alone && status == Status::Running
 }
 
 // The index of a condition's queue among a machine's values, where queues come after the variables.
@@ -86,6 +78,26 @@ fn access_variable(
 {
     access(&mut shared[variable], own, action);
     Status::Running
+}
+
+// Where a thread is that went on at `place` with this `status`: where it runs, after the local run
+// that it takes from there, on its locals `own`; else there.
+#[inline(always)]
+fn land(code: &[Instruction], own: &mut [i64], place: usize, status: Status) -> Landing
+    requires place { place ≤ length code.now }
+    requires below { All (LocalsBelow (length own.old)) code.now }
+    ensures place { result.pc ≤ length code.now }
+    ensures free { IsFreeIn code.now result }
+    ensures thread { own_thread result own.new ≡ going_on code.now status place own.old }
+{
+    match status {
+        Status::Running => run_local(code, own, place, Status::Running),
+        _ => Landing {
+            pc: place,
+            status,
+            free: false,
+        },
+    }
 }
 
 impl Control {
@@ -144,6 +156,7 @@ impl Control {
 
     // Takes the step of a `signal`: takes the first thread, if any, out of the `queue` of the
     // condition `c`, and wakes it. Answers the status of the thread that signals: it runs on.
+    #[inline(never)]
     fn signal(&mut self, program: &Program, queue: i64, thread: u8, c: usize) -> Status
         requires thread { thread < length program.now.threads }
         requires ready { (s : Snapshot) × (cells : List ℤ) × (mine : List ℤ)
@@ -164,6 +177,7 @@ impl Control {
 
     // Takes the step of a `broadcast`: takes all threads out of the `queue` of the condition `c`,
     // and wakes them. Answers the status of the thread that broadcasts: it runs on.
+    #[inline(never)]
     fn broadcast(&mut self, program: &Program, queue: i64, thread: u8, c: usize) -> Status
         requires thread { thread < length program.now.threads }
         requires ready { (s : Snapshot) × (cells : List ℤ) × (mine : List ℤ)
@@ -306,10 +320,24 @@ impl Control {
         }
     }
 
-    // Takes a further step of a run, whose thread is at a visible instruction that it can perform,
-    // so that it is enabled. False where the run is over: where other threads are enabled after the
-    // step than after the first one, or where the step leaves the thread waiting or stopped. `own`
-    // are its locals, `shared` the variables' values and the queues.
+    // Whether a running thread can take a step at the instruction number `place`, where its local
+    // run came to this `turn`: not where it goes on by itself, fails or is at the code's end.
+    fn can_step(&self, code: &[Instruction], place: usize, turn: Turn) -> bool
+        requires valid { (p : Program) × IsValidCode p code.now × IsWellFormed p }
+        requires turn { (own : List ℤ) × (turn ≡ turn_of place own (drop place code.now)) }
+        ensures there { IsTrue result → place < length code.now }
+        ensures faces { IsTrue result → Faces self.now (slice_get code.now place) }
+    {
+        match turn {
+            Turn::Takes => self.can_perform(&code[place]),
+            Turn::Visible => true,
+            Turn::Runs(_) | Turn::Fails | Turn::Ends => false,
+        }
+    }
+
+    // Takes a further step of a run, whose thread is at a visible instruction that it can perform.
+    // False where that is the last: where the thread waits, has stopped or, unless it is heedless,
+    // others are enabled then. `own` are its locals, `shared` the variables' values and the queues.
     #[inline(always)]
     fn try_further_step(
         &mut self,
@@ -323,15 +351,15 @@ impl Control {
         requires place { moving.old.place < length code.now }
         requires faces { Faces self.old (slice_get code.now moving.old.place) }
         requires valid { IsValidCode program.now code.now }
-        requires among { IsSetBut moving.old.thread self.old.enabled moving.old.among }
+        requires among { RunsAmong moving.old self.old.enabled }
         requires going { (s : Snapshot) × (code.now ≡ code_of program.now moving.old.thread)
             × IsGoing program.now s moving.old.thread self.old shared.old own.old moving.old }
         ensures thread { moving.new.thread ≡ moving.old.thread }
         ensures place { moving.old.place ≤ moving.new.place }
         ensures further { IsTrue result → moving.old.place < moving.new.place }
         ensures running { IsTrue result → moving.new.status ≡ Running }
-        ensures among { IsTrue result
-            → IsSetBut moving.new.thread self.new.enabled moving.new.among }
+        ensures among { IsTrue result → RunsAmong moving.new self.new.enabled }
+        ensures heedless { moving.new.heedless ≡ moving.old.heedless }
         ensures going { (s : Snapshot)
             → IsGoing program.now s moving.old.thread self.old shared.old own.old moving.old
             → IsGoing program.now s moving.old.thread self.new shared.new own.new moving.new }
@@ -343,13 +371,11 @@ impl Control {
         moving.status = status;
         moving.steps += 1;
         let enabled = self.enabled.with(moving.thread, true);
-        (status == Status::Running) & (enabled == moving.among)
+        (status == Status::Running) & (moving.heedless | (enabled == moving.among))
     }
 
     // Runs the next instruction of a run after its first step, be it local or visible. False where
-    // the run is over: an assertion fails, the code ends, the thread waits, stops or can't take the
-    // step, or other threads are enabled after it than after the first. `own` are its locals,
-    // `shared` the values of the variables and the queues.
+    // the run is over. `own` are its locals, `shared` the variables' values and the queues.
     #[inline(always)]
     fn try_instruction(
         &mut self,
@@ -361,15 +387,15 @@ impl Control {
     ) -> bool
         requires running { moving.old.status ≡ Running }
         requires valid { IsValidCode program.now code.now }
-        requires among { IsSetBut moving.old.thread self.old.enabled moving.old.among }
+        requires among { RunsAmong moving.old self.old.enabled }
         requires going { (s : Snapshot) × (code.now ≡ code_of program.now moving.old.thread)
             × IsGoing program.now s moving.old.thread self.old shared.old own.old moving.old }
         ensures thread { moving.new.thread ≡ moving.old.thread }
         ensures place { moving.old.place ≤ moving.new.place }
         ensures further { IsTrue result → moving.old.place < moving.new.place }
         ensures running { IsTrue result → moving.new.status ≡ Running }
-        ensures among { IsTrue result
-            → IsSetBut moving.new.thread self.new.enabled moving.new.among }
+        ensures among { IsTrue result → RunsAmong moving.new self.new.enabled }
+        ensures heedless { moving.new.heedless ≡ moving.old.heedless }
         ensures going { (s : Snapshot)
             → IsGoing program.now s moving.old.thread self.old shared.old own.old moving.old
             → IsGoing program.now s moving.old.thread self.new shared.new own.new moving.new }
@@ -380,50 +406,17 @@ impl Control {
                 moving.place = next;
                 true
             }
-            Turn::Takes => {
-                self.can_perform(&code[moving.place])
-                    && self.try_further_step(program, code, shared, own, moving)
+            turn => {
+                if !self.can_step(code, moving.place, turn) {
+                    return false;
+                }
+                self.try_further_step(program, code, shared, own, moving)
             }
-            Turn::Visible => self.try_further_step(program, code, shared, own, moving),
-            Turn::Fails | Turn::Ends => false,
         }
     }
 
-    // Ends a run after its last step: takes the thread's local run, on its locals `own`, if the
-    // thread is running, and sets the thread's place and status in the control.
-    #[inline(always)]
-    fn finish_run(&mut self, code: &[Instruction], own: &mut [i64], moving: MovingThread)
-        requires thread { moving.thread < THREADS }
-        requires place { moving.place ≤ length code.now }
-        requires few { length code.now < 2 ^ 16 }
-        requires fine { (p : Program) × IsValidCode p code.now × IsWellFormed p }
-        requires below { All (LocalsBelow (length own.old)) code.now }
-        ensures { (p : Program) → (s : Snapshot) → (cells : List ℤ)
-            → code.now ≡ code_of p moving.thread
-            → IsPassed p s moving.thread self.old cells own.old moving.place moving.status
-            → moving.thread < length s.threads
-            → IsStepped p s moving.thread self.new cells own.new }
-    {
-        match moving.status {
-            Status::Running => {
-                let at = run_local(code, own, moving.place, Status::Running);
-                self.place_thread(code, moving.thread, at);
-            }
-            _ => self.place_thread(
-                code,
-                moving.thread,
-                Landing {
-                    pc: moving.place,
-                    status: moving.status,
-                    free: false,
-                },
-            ),
-        }
-    }
-
-    // Takes a step of an enabled thread and, where it is `alone`, since no other may step while it
-    // can, further ones, while it is enabled and the same threads are enabled as after its first
-    // step. `own` are its locals, `shared` the values of the variables and the queues.
+    // Takes a step of an enabled thread and, as far as `reach` says, further ones. `own` are its
+    // locals, `shared` the values of the variables and the queues.
     #[inline(always)]
     fn run(
         &mut self,
@@ -431,17 +424,15 @@ impl Control {
         shared: &mut [i64],
         own: &mut [i64],
         thread: u8,
-        alone: bool,
+        reach: Reach,
     ) -> Run
         requires { (s : Snapshot)
             × IsReadyIn program.now s thread self.old shared.old own.old }
         ensures some { 1 ≤ result.steps }
         ensures few { result.steps ≤ 2 * INSTRUCTIONS }
-        ensures one { alone ≡ false → result.steps ≡ 1 }
-        ensures on { 1 < result.steps → has result.among thread ≡ true }
-        ensures enabled { result.enabled ≡ self.new.enabled }
+        ensures one { reach.further ≡ false → result.steps ≡ 1 }
         ensures runs { (s : Snapshot) → IsReadyIn program.now s thread self.old shared.old own.old
-            → IsRunTo program.now s thread result self.new shared.new own.new }
+            → IsRunTo program.now s thread reach.heedless result self.new shared.new own.new }
     {
         program.keeps_limits();
         let code = program.code(thread);
@@ -453,29 +444,28 @@ impl Control {
             status,
             steps: 1,
             among: self.enabled.with(thread, true),
+            heedless: reach.heedless,
         };
-        let mut going = may_extend_run(alone, status);
+        let mut going = reach.further & (status == Status::Running);
         while going {
             going = self.try_instruction(program, code, shared, own, &mut moving);
         }
-        self.finish_run(code, own, moving);
+        self.place_thread(code, thread, land(code, own, moving.place, moving.status));
         Run {
             steps: moving.steps,
             among: moving.among,
-            enabled: self.enabled,
         }
     }
 
-    /// Takes a step of an enabled thread, and further ones where it is `alone`, as
-    /// [`Machine::run`](crate::Machine::run) does. `values` are all of a machine's: those of the
-    /// variables, the queues, and then `shape.width` locals for each thread. Takes no memory.
+    /// Runs a thread as [`Machine::run`](crate::Machine::run) does. `values` are all of a machine:
+    /// those of the variables, the queues, and then `shape.width` locals for each thread.
     #[inline(always)]
     pub(crate) fn run_on_values(
         &mut self,
         values: &mut [i64],
         program: &Program,
         thread: u8,
-        alone: bool,
+        reach: Reach,
         shape: &Shape,
     ) -> Run
         requires { (s : Snapshot)
@@ -488,14 +478,16 @@ impl Control {
             (state_after program.now s (replicate result.steps thread)) }
         ensures some { 1 ≤ result.steps }
         ensures few { result.steps ≤ 2 * INSTRUCTIONS }
-        ensures one { alone ≡ false → result.steps ≡ 1 }
+        ensures one { reach.further ≡ false → result.steps ≡ 1 }
+        ensures enabled { (s : Snapshot)
+            → IsState program.now shape.now.fixed shape.now.width self.old values.old s
+            → is_enabled program.now s thread ≡ true → (k : ℕ) → k < result.steps → is_enabled
+            program.now (state_after program.now s (replicate k thread)) thread ≡ true }
         ensures among { (s : Snapshot)
             → IsState program.now shape.now.fixed shape.now.width self.old values.old s
-            → is_enabled program.now s thread ≡ true
+            → is_enabled program.now s thread ≡ true → reach.heedless ≡ false
             → (k : ℕ) → 1 ≤ k → k < result.steps → HasEnabled result.among program.now
             (state_after program.now s (replicate k thread)) }
-        ensures on { 1 < result.steps → has result.among thread ≡ true }
-        ensures enabled { result.enabled ≡ self.new.enabled }
         ensures size { length values.new ≡ length values.old }
     {
         let (shared, locals) = values.split_at_mut(shape.fixed + program.conditions() as usize);
@@ -505,7 +497,7 @@ impl Control {
             shared,
             &mut locals[from..from + shape.width],
             thread,
-            alone,
+            reach,
         )
     }
 }

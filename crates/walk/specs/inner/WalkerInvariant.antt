@@ -3,6 +3,7 @@ use Rattle.std.specs.Prelude.{◌≡◌, ℕ, zero, suc, ◌+◌, ◌-◌, ◌<�
 use Rattle.std.specs.Prelude.{◌&&◌, nat_eq, nat_le, nat_lt, List, [], ◌∷◌, ◌++◌, length, take, replicate, Some}
 use Rattle.machine.specs.declared.machine.Run.{Run}
 use Rattle.guest_code.specs.Program.{Program}
+use Rattle.semantics.specs.Machine.{is_enabled}
 use Rattle.semantics.specs.Mask.{has, HasEnabled, members_from, one_if}
 use Rattle.semantics.specs.declared.mask.Mask.{Mask}
 use Rattle.items.specs.declared.mode.Mode.{Mode}
@@ -16,7 +17,7 @@ use Rattle.prefix_list.specs.PrefixLists.{last_of}
 use Rattle.summary.specs.Summaries.{SummaryView, IsSummary, join}
 use Rattle.items.specs.Walks.{IsWalked, items_at, listed_if}
 use Rattle.items.specs.Children.{child_of, children_of, cost_of, costs}
-use Rattle.walk.specs.inner.Paths.{used_frames, is_preempting, frame_at, state_at, IsPath, IsNode}
+use Rattle.walk.specs.inner.Paths.{used_frames, is_preempting, frame_at, state_at, IsPath, ReachesNode}
 
 -- the item of a node, to which these steps lead
 abbrev pub item_of : Program → List ℕ → Node → ItemView
@@ -190,10 +191,10 @@ pub record IsPushedIfOpen (p : Program) (old new : Path) : Type 0 where
   pub left : (mode : Mode) → left_above mode p new ≡ still_open mode p old
 
 -- a run of a thread further, after whose first step these sleep: what was open above is so. At each
--- node between its steps the walk is at the bound and these are enabled, the thread among them
+-- node between its steps the walk is at the bound, the thread is enabled and, unless the run was
+-- heedless, those are that it names
 pub record IsExtended (p : Program) (mode : Mode) (old new : Path) (t : ℕ) (sleepers : Mask)
-    (run : Run)
-    : Type 0 where
+    (heedless : Bool) (run : Run) : Type 0 where
   pub some : 1 ≤ run.steps
   pub steps : new.steps.items ≡ old.steps.items ++ replicate run.steps t
   pub last : new.node.last ≡ Some t
@@ -203,5 +204,9 @@ pub record IsExtended (p : Program) (mode : Mode) (old new : Path) (t : ℕ) (sl
   pub left : (m : Mode) → old.base ≤ length (used_frames old)
       → left_above m p new ≡ left_above m p old
   pub between : (k : ℕ) → 1 ≤ k → k < run.steps
-      → IsNode p (old.steps.items ++ replicate k t) run.among new.node
-  pub alone : 1 < run.steps → (at_bound mode new.node && has run.among t) ≡ true
+      → ReachesNode p (old.steps.items ++ replicate k t) new.node
+  pub enabled : (k : ℕ) → 1 ≤ k → k < run.steps
+      → is_enabled p (state_at p (old.steps.items ++ replicate k t)) t ≡ true
+  pub among : heedless ≡ false → (k : ℕ) → 1 ≤ k → k < run.steps
+      → HasEnabled run.among p (state_at p (old.steps.items ++ replicate k t))
+  pub bound : 1 < run.steps → at_bound mode new.node ≡ true

@@ -1,12 +1,10 @@
-use Rattle.std.proofs.Common.{arith, ◌∙◌, ◌∷◌, [], ◌++◌, ◌+◌, ◌<◌, length, refl, ap, sym, subst, get_or, set}
+use Rattle.std.proofs.Common.{arith, ◌∙◌, ◌∷◌, [], ◌++◌, ◌+◌, ◌<◌, length, refl, ap, sym, subst, get_or, set, pos}
 use Rattle.semantics.specs.Machine.{queue_of}
 use Rattle.machine.specs.Refinement.{queued}
-use Rattle.machine.specs.inner.Steps.{AreShared}
+use Rattle.machine.specs.inner.Steps.{AreShared, IsPerformed}
 use Rattle.machine.proofs.Queues.{recelled}
 use Rattle.machine.proofs.Performed.{leaves, waits_on, cannot_wait, room_for, owns_number, owner_is, owner_is_not}
 use Rattle.std.proofs.lemmas.List.{set-get_or}
-use Rattle.std.proofs.Common.{pos}
-use Rattle.machine.specs.inner.Steps.{IsPerformed}
 use Rattle.semantics.specs.declared.state.Status.TheVariants.{Stopped}
 use Rattle.semantics.specs.declared.state.Stop.TheVariants.{NotHeld}
 use Rattle.machine.proofs.control.Control.begin_wait.Goals as goal

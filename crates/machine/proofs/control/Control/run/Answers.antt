@@ -1,18 +1,24 @@
-use Rattle.std.proofs.Common.{arith, true, false, ◌≡◌, ◌<◌, ◌∙◌, ◌*◌, ◌+◌, ◌-◌, cond, sym, subst, ap, refl, length, List}
+use Rattle.std.proofs.Common.{arith, true, false, ◌≡◌, ◌<◌, ◌∙◌, ◌*◌, ◌+◌, ◌-◌, cond, sym, subst, ap, refl, length, List, rules}
+use Rattle.std.proofs.lemmas.Bool.{and_left, and_parts}
 use Rattle.guest_code.specs.declared.program.Instruction.{Instruction}
 use Rattle.guest_code.specs.declared.program.Instruction.TheVariants.{Load}
 use Rattle.guest_code.specs.Program.{code_of}
 use Rattle.semantics.proofs.WorkFalls.{enabled_below}
-use Rattle.machine.specs.inner.Runs.{run_to, IsGoing, IsRunTo, IsSetBut}
-use Rattle.machine.proofs.WholeSteps.{here_inside}
-use Rattle.machine.proofs.Runs.{begun, run_over, comes_further}
+use Rattle.machine.specs.inner.Runs.{run_to, IsGoing, IsRunTo}
+use Rattle.machine.specs.inner.Steps.{going_on}
+use Rattle.machine.proofs.Landings.{arrived}
+use Rattle.machine.proofs.LocalRuns.{lands_there}
+use Rattle.machine.proofs.WholeSteps.{here_inside, finished}
+use Rattle.machine.proofs.Runs.{begun, last_enabled, run_over, comes_further}
 use Rattle.machine.proofs.control.Control.run.Goals as goal
 
 pub loop-going-init : goal.loop-going-init
 loop-going-init c = record {
   thread = refl;
-  running = c.may_extend_run-going.ensures.running;
-  one = λ e. (c.may_extend_run-going.ensures.alone e, refl);
+  running = λ on. (let is = (and_parts c.args.reach.further _ on).1 in
+      search (rules, c.eq.ensures, is));
+  one = λ e. (and_left c.args.reach.further _ e, refl);
+  heedless = refl;
   going = λ s ready.
       let p = c.args.program.now in
       let t = c.args.thread in
@@ -20,18 +26,16 @@ loop-going-init c = record {
       c.take_step-status.new.shared c.take_step-status.new.own _ _ ready
       (c.take_step-status.ensures s ready) (ready.control.threads t).place
       (here_inside p s t c.args.self.now (code_of p t) (Load 0 0) ready.control ready.enabled refl)
-      (omega arith) c.place_after.ensures refl c.with.ensures.same;
-  among = λ _. (c.with.ensures.same, c.with.ensures.others);
+      (omega arith) c.place_after.ensures refl;
+  among = λ _ _. (c.with.ensures.same, c.with.ensures.others);
 }
 
 pub loop-going-preserved : goal.loop-going-preserved
 loop-going-preserved c = record {
   thread = c.try_instruction-going.ensures.thread ∙ c.loop-going.invariant.thread;
   running = c.try_instruction-going.ensures.running;
-  among = λ on. subst (λ t. IsSetBut t c.try_instruction-going.new.self.enabled
-      c.try_instruction-going.new.moving.among)
-      (c.try_instruction-going.ensures.thread ∙ c.loop-going.invariant.thread)
-      (c.try_instruction-going.ensures.among on);
+  among = c.try_instruction-going.ensures.among;
+  heedless = c.try_instruction-going.ensures.heedless ∙ c.loop-going.invariant.heedless;
   one = λ e. (let off = (c.loop-going.invariant.one e).0 in
       let no : true ≡ false = sym c.loop-going-test.true ∙ off in absurd (cc));
   going = λ s ready.
@@ -63,17 +67,23 @@ loop-going-smaller c =
 pub returns-clause-runs : goal.returns-clause-runs
 returns-clause-runs c = λ s ready.
     let p = c.args.program.now in
-    let known = c.loop-going.invariant in
+    let t = c.args.thread in
     let m = c.loop-going.moving in
-    let h = subst (λ t. IsGoing p s t c.loop-going.self c.loop-going.shared c.loop-going.own m)
-    (sym known.thread) (known.going s ready) in
-    subst (λ t. IsRunTo p s t (record {
-      steps = m.steps;
-      among = m.among;
-      enabled = c.finish_run.new.self.enabled;
-    }) c.finish_run.new.self c.loop-going.shared c.finish_run.new.own) known.thread
-    (run_over p s m.thread c.loop-going.self c.finish_run.new.self c.loop-going.shared
-    c.loop-going.own c.finish_run.new.own m _ h
-    (c.finish_run.ensures p (run_to p s m.thread h.done) c.loop-going.shared
-    (c.code-code.ensures.code ∙ ap (code_of p) (sym known.thread)) h.passed
-    (enabled_below p (run_to p s m.thread h.done) m.thread h.enabled)) refl refl)
+    let e = c.place_thread.new.self in
+    let h = c.loop-going.invariant.going s ready in
+    let q = h.passed.performed in
+    let there = enabled_below p (run_to p s t h.done) t
+    (last_enabled p s t c.loop-going.self c.loop-going.shared c.loop-going.own m h) in
+    let went = c.land.ensures.thread
+    ∙ (ap (λ is. going_on is m.status m.place c.loop-going.own) c.code-code.ensures.code
+    ∙ h.passed.goes_on) in
+    run_over p s t c.loop-going.self e c.loop-going.shared c.loop-going.own c.land.new.own m _
+    c.args.reach.heedless h
+    (finished p (run_to p s t h.done) t c.loop-going.self e c.loop-going.shared h.passed.before
+    c.land.new.own m.status c.land.result q there (omega (arith, h.passed.many)) went
+    c.place_thread.ensures.lengths
+    (arrived p q.after t _ c.loop-going.self e q.control (omega (arith, there, q.threads))
+    (c.place_thread.ensures.lands p q.after _ q.control.objects q.control.idle
+    (lands_there (length h.passed.before) c.land.result c.land.new.own _ went)
+    c.code-code.ensures.code)))
+    refl refl (sym c.loop-going.invariant.heedless)

@@ -1,7 +1,7 @@
 use Rattle.std.proofs.Common.{◌≡◌, ◌+◌, ◌*◌, ◌-◌, cond, true, false, length}
 use Rattle.semantics.specs.declared.state.Status.TheVariants.{Running}
 use Rattle.semantics.specs.Machine.{Snapshot}
-use Rattle.machine.specs.inner.Runs.{IsGoing, IsSetBut}
+use Rattle.machine.specs.inner.Runs.{IsGoing, RunsAmong}
 use Rattle.machine.specs.inner.Steps.{IsReadyIn}
 use Rattle.machine.proofs.control.Control.run.Given as goal
 
@@ -9,8 +9,9 @@ abbrev pub invariant-loop-going : goal.invariant-loop-going
 invariant-loop-going l = record {
   thread : l.moving.thread ≡ l.thread;
   running : l.going ≡ true → l.moving.status ≡ Running;
-  one : l.alone ≡ false → (l.going ≡ false) × (l.moving.steps ≡ 1);
-  among : l.going ≡ true → IsSetBut l.thread l.self.enabled l.moving.among;
+  one : l.fn.reach.further ≡ false → (l.going ≡ false) × (l.moving.steps ≡ 1);
+  among : l.going ≡ true → RunsAmong l.moving l.self.enabled;
+  heedless : l.moving.heedless ≡ l.fn.reach.heedless;
   going : (s : Snapshot) → IsReadyIn l.program s l.thread l.fn.self l.fn.shared l.fn.own
       → IsGoing l.program s l.thread l.self l.shared l.own l.moving;
 }

@@ -1,6 +1,10 @@
-use Rattle.std.proofs.Common.{arith, ◌≡◌, length}
+use Rattle.std.proofs.Common.{arith, ◌≡◌, true, length}
+use Rattle.semantics.specs.Machine.{Snapshot, is_enabled}
+use Rattle.machine.specs.Refinement.{IsState}
+use Rattle.machine.specs.inner.Runs.{IsRunTo}
 use Rattle.machine.proofs.Values.{begins, all_inside, ready, slice_is, slice_length, slice_written, shows_after, size_after}
 use Rattle.machine.proofs.control.Control.run_on_values.Goals as goal
+use Rattle.machine.proofs.control.Control.run_on_values.Goals.{After-run}
 
 pub slice_bounds-run-end : goal.slice_bounds-run-end
 slice_bounds-run-end c =
@@ -45,6 +49,26 @@ run-requires c =
           (slice_length p f w d vs s t shows on _ at all back),
     )
 
+-- the run was one on the thread's own part of the values
+ran : (c : After-run) → (s : Snapshot)
+    → IsState c.args.program.now c.args.shape.now.fixed c.args.shape.now.width c.args.self.now
+    c.args.values.now s → is_enabled c.args.program.now s c.args.thread ≡ true
+    → IsRunTo c.args.program.now s c.args.thread c.args.reach.heedless c.run.result
+    c.run.new.self c.run.new.shared c.run.new.own
+ran c s shows on =
+    let p = c.args.program.now in
+    let f = c.args.shape.now.fixed in
+    let w = c.args.shape.now.width in
+    let d = c.args.self.now in
+    let vs = c.args.values.now in
+    let t = c.args.thread in
+    let at = begins p f w d vs s t shows on c.conditions.result c.conditions.ensures.number in
+    let all = c.split_at_mut-shared.result.1.now in
+    let back = c.split_at_mut-shared.ensures.back in
+    c.run.ensures.runs s (ready p f w d vs s t shows on _ _ _ at
+    c.split_at_mut-shared.ensures.front (slice_is p f w d vs s t shows on _ at all back)
+    (slice_length p f w d vs s t shows on _ at all back))
+
 pub returns-clause-shows : goal.returns-clause-shows
 returns-clause-shows c = λ s shows on.
     let p = c.args.program.now in
@@ -59,25 +83,16 @@ returns-clause-shows c = λ s shows on.
     let many = slice_length p f w d vs s t shows on _ at all back in
     let long : length c.run.new.own ≡ w = omega (arith, many) in
     shows_after p f w d vs s t shows on c.run.result c.run.new.self c.run.new.shared _ c.run.new.own
-    (c.run.ensures.runs s (ready p f w d vs s t shows on _ _ _ at
-    c.split_at_mut-shared.ensures.front (slice_is p f w d vs s t shows on _ at all back) many)) long
+    (ran (goal.at.returns-clause-shows c).After-run s shows on) long
     (slice_written p f w d vs s t shows on _ at all back c.run.new.own long)
+
+pub returns-clause-enabled : goal.returns-clause-enabled
+returns-clause-enabled c = λ s shows on.
+    (ran (goal.at.returns-clause-enabled c).After-run s shows on).enabled
 
 pub returns-clause-among : goal.returns-clause-among
 returns-clause-among c = λ s shows on.
-    let p = c.args.program.now in
-    let f = c.args.shape.now.fixed in
-    let w = c.args.shape.now.width in
-    let d = c.args.self.now in
-    let vs = c.args.values.now in
-    let t = c.args.thread in
-    let at = begins p f w d vs s t shows on c.conditions.result c.conditions.ensures.number in
-    let all = c.split_at_mut-shared.result.1.now in
-    let back = c.split_at_mut-shared.ensures.back in
-    (c.run.ensures.runs s (ready p f w d vs s t shows on _ _ _ at
-    c.split_at_mut-shared.ensures.front
-    (slice_is p f w d vs s t shows on _ at all back)
-    (slice_length p f w d vs s t shows on _ at all back))).between
+    (ran (goal.at.returns-clause-among c).After-run s shows on).between
 
 pub returns-clause-size : goal.returns-clause-size
 returns-clause-size c =
@@ -96,6 +111,5 @@ returns-clause-size c =
     let many = slice_length p f w d vs s t shows on _ at all back in
     let long : length c.run.new.own ≡ w = omega (arith, many) in
     size_after p f w d vs s t shows on c.run.result c.run.new.self c.run.new.shared _ c.run.new.own
-    (c.run.ensures.runs s (ready p f w d vs s t shows on _ _ _ at
-    c.split_at_mut-shared.ensures.front (slice_is p f w d vs s t shows on _ at all back) many)) long
+    (ran (goal.at.returns-clause-size c).After-run s shows on) long
     (slice_written p f w d vs s t shows on _ at all back c.run.new.own long)

@@ -1,4 +1,4 @@
-use Rattle.std.proofs.Common.{arith, ◌∙◌, sym, refl}
+use Rattle.std.proofs.Common.{arith, sym, refl}
 use Rattle.guest_code.specs.declared.program.Instruction.TheVariants.{Load}
 use Rattle.machine.specs.inner.Runs.{run_to}
 use Rattle.machine.proofs.Runs.{poised_going, going_further}
@@ -25,4 +25,4 @@ returns-clause-going c = λ s h.
     going_further p s m.thread c.args.self.now c.args.shared.now c.args.own.now m
     c.args.code.now (Load 0 0) h c.requires.running c.requires.going.1 c.requires.valid c.requires.place
     c.requires.faces c.perform-status.new.self c.perform-status.new.shared c.perform-status.new.own
-    _ q (omega arith) c.place_after-moving.ensures refl refl c.requires.among
+    _ q (omega arith) c.place_after-moving.ensures refl refl refl c.requires.among

@@ -1,39 +1,33 @@
-use Rattle.std.proofs.Common.{arith, ◌≡◌, ◌∙◌, ◌<◌, sym, subst, ap, refl, get_or}
-use Rattle.semantics.specs.declared.state.Status.TheVariants.{Running}
-use Rattle.semantics.specs.declared.local.Turn.TheVariants.{Runs, Takes, Visible}
-use Rattle.guest_code.specs.declared.program.Instruction.TheVariants.{Load}
-use Rattle.semantics.specs.Machine.{can_do, action_of}
-use Rattle.machine.specs.inner.Runs.{IsGoing}
-use Rattle.machine.specs.inner.Steps.{Faces}
-use Rattle.machine.proofs.Landings.{faces_visible}
-use Rattle.machine.proofs.LocalRuns.{turned_on, kept}
-use Rattle.machine.proofs.Lists.{read_at}
-use Rattle.machine.proofs.Runs.{going_locally, going_kept, visible_inside}
+use Rattle.std.proofs.Common.{arith, ◌≡◌, ◌∙◌, refl}
+use Rattle.machine.proofs.LocalRuns.{kept}
+use Rattle.machine.proofs.Runs.{going_locally, going_kept}
 use Rattle.machine.proofs.control.Control.try_instruction.Goals as goal
+use Rattle.machine.proofs.control.Control.try_instruction.Goals.{In_default}
 
-pub try_further_step-requires-in-Visible-clause-faces :
-    goal.try_further_step-requires-in-Visible-clause-faces
-try_further_step-requires-in-Visible-clause-faces c =
-    faces_visible c.args.self.now c.args.code.now c.args.moving.now.place c.args.own.now
-    (sym c.run_if_local.ensures.turn ∙ c.in-Visible.is)
+pub can_step-requires : goal.can_step-requires
+can_step-requires c = record {
+  valid = (c.args.program.now, c.requires.valid, c.keeps_limits.ensures);
+  turn = (c.args.own.now, c.run_if_local.ensures.turn);
+}
+
+-- an instruction that isn't the thread's own leaves its locals
+own_is : (c : In_default) → c.run_if_local.new.locals ≡ c.args.own.now
+own_is c = c.run_if_local.ensures.locals ∙ kept c.args.moving.now.place c.args.own.now _
+    (λ n e. c.in_default.not-Runs n (c.run_if_local.ensures.turn ∙ e))
+
+pub try_further_step-requires-clause-place : goal.try_further_step-requires-clause-place
+try_further_step-requires-clause-place c = c.can_step.ensures.there c.if-not-can_step.false
 
 pub try_further_step-requires-clause-faces : goal.try_further_step-requires-clause-faces
-try_further_step-requires-clause-faces c =
-    let short = visible_inside c.args.moving.now.place c.args.own.now c.args.code.now Takes
-    (sym c.run_if_local.ensures.turn ∙ c.in-Takes.is) (λ e. cc) in
-    subst (Faces c.args.self.now)
-    (sym (read_at c.args.code.now c.args.moving.now.place (Load 0 0) short))
-    (λ i e s objects. (let z : get_or c.args.code.now c.args.moving.now.place (Load 0 0) ≡ i = cc in
-    ap (λ x. can_do s (action_of x)) (sym z)
-    ∙ (sym (c.can_perform.ensures s objects) ∙ c.if-can_perform.true)))
+try_further_step-requires-clause-faces c = c.can_step.ensures.faces c.if-not-can_step.false
 
-pub can_perform-requires : goal.can_perform-requires
-can_perform-requires c = (
-  c.args.program.now,
-  c.requires.valid.fine c.args.moving.now.place (Load 0 0)
-      (visible_inside c.args.moving.now.place c.args.own.now c.args.code.now Takes
-      (sym c.run_if_local.ensures.turn ∙ c.in-Takes.is) (λ e. cc)),
-  c.keeps_limits.ensures,
+pub try_further_step-requires-clause-going : goal.try_further_step-requires-clause-going
+try_further_step-requires-clause-going c = (
+  c.requires.going.0,
+  c.requires.going.1,
+  going_kept c.args.program.now c.requires.going.0 c.args.moving.now.thread c.args.self.now
+      c.args.shared.now c.args.own.now c.run_if_local.new.locals c.args.moving.now
+      c.requires.going.2 (own_is (goal.at.try_further_step-requires-clause-going c).In_default),
 )
 
 pub returns-in-Runs-clause-going : goal.returns-in-Runs-clause-going
@@ -43,10 +37,15 @@ returns-in-Runs-clause-going c = λ s h.
     c.requires.running c.requires.going.1 c.in-Runs.ensures.turn c.in-Runs.ensures.locals
     (omega arith) c.in-Runs.ensures.further.0 c.in-Runs.ensures.further.1 refl
 
-pub returns-in-Visible-clause-going : goal.returns-in-Visible-clause-going
-returns-in-Visible-clause-going c = λ s h.
-    c.try_further_step-in-Visible.ensures.going s
+pub returns-then-not-can_step-clause-going : goal.returns-then-not-can_step-clause-going
+returns-then-not-can_step-clause-going c = λ s h.
+    going_kept c.args.program.now s c.args.moving.now.thread c.args.self.now c.args.shared.now
+    c.args.own.now c.run_if_local.new.locals c.args.moving.now h
+    (own_is (goal.at.returns-then-not-can_step-clause-going c).In_default)
+
+pub returns-else-not-can_step-clause-going : goal.returns-else-not-can_step-clause-going
+returns-else-not-can_step-clause-going c = λ s h.
+    c.try_further_step.ensures.going s
     (going_kept c.args.program.now s c.args.moving.now.thread c.args.self.now c.args.shared.now
     c.args.own.now c.run_if_local.new.locals c.args.moving.now h
-    (c.in-Visible.ensures.locals ∙ kept c.args.moving.now.place c.args.own.now _
-    (λ n e. (let f : Visible ≡ Runs n = c.in-Visible.ensures.turn ∙ e in cc))))
+    (own_is (goal.at.returns-else-not-can_step-clause-going c).In_default))

@@ -1,14 +1,14 @@
 use Rattle.std.proofs.Common.{◌≡◌, arith, ◌+◌, ◌∙◌, ◌<◌, ◌≤◌, ◌++◌, ◌&&◌, ℕ, Bool, true, false}
 use Rattle.std.proofs.Common.{List, replicate, refl, ap, sym}
 use Rattle.semantics.specs.Machine.{is_enabled}
-use Rattle.semantics.specs.Mask.{HasEnabled, has, one_if}
+use Rattle.semantics.specs.Mask.{HasEnabled, one_if}
 use Rattle.schedules.specs.Schedules.{preempts}
 use Rattle.schedules.proofs.Executions.{reaches_few}
 use Rattle.schedules.proofs.ScheduleLengths.{schedule_within}
 use Rattle.walk.specs.inner.Paths.{state_at}
 use Rattle.walk.specs.inner.WalkerInvariant.{at_bound}
 use Rattle.walk.proofs.PathSteps.{left_extended, preempts_is}
-use Rattle.walk.proofs.RunSteps.{run_reaches, run_enabled, run_front, path_extended}
+use Rattle.walk.proofs.RunSteps.{run_reaches, run_enabled, run_on, run_front, path_extended}
 use Rattle.walk.proofs.path.Path.extend.Goals as goal
 
 pub step-requires : goal.step-requires
@@ -37,21 +37,29 @@ used_is c =
     (preempts_is p (state_at p t.steps.items) c.enabled-enabled.result t.node.last c.args.thread
     (c.enabled-enabled.ensures p (state_at p t.steps.items) c.requires.path.shows))
 
-among_are : (c : goal.After-push_run) → (k : ℕ) → 1 ≤ k → k < c.run-run.result.steps
-    → HasEnabled c.run-run.result.among c.args.program.now
+among_are : (c : goal.After-push_run) → c.args.heedless ≡ false → (k : ℕ) → 1 ≤ k
+    → k < c.run-run.result.steps → HasEnabled c.run-run.result.among c.args.program.now
     (state_at c.args.program.now (c.args.self.now.steps.items ++ replicate k c.args.thread))
-among_are c k some few =
+among_are c off k some few =
     let p = c.args.program.now in
     let w = c.args.self.now.steps.items in
     run_enabled p w c.args.thread k c.run-run.result.among
-    (c.run-run.ensures.among (state_at p w) c.requires.path.shows c.requires.enabled k some few)
+    (c.run-run.ensures.among (state_at p w) c.requires.path.shows c.requires.enabled
+    (none c.is_at_bound-further.result c.args.heedless off) k some few)
+  where
+    none : (a b : Bool) → b ≡ false → (a && b) ≡ false
+    none true b h = h
+    none false b h = refl
 
 goes_on : (c : goal.After-push_run) → (k : ℕ) → 1 ≤ k → k < c.run-run.result.steps
     → is_enabled c.args.program.now
     (state_at c.args.program.now (c.args.self.now.steps.items ++ replicate k c.args.thread))
     c.args.thread ≡ true
-goes_on c k some few = sym (among_are c k some few c.args.thread)
-    ∙ c.run-run.ensures.on (omega (arith, some, few))
+goes_on c k some few =
+    let p = c.args.program.now in
+    let w = c.args.self.now.steps.items in
+    run_on p w c.args.thread k
+    (c.run-run.ensures.enabled (state_at p w) c.requires.path.shows c.requires.enabled k few)
 
 pub returns-clause-path : goal.returns-clause-path
 returns-clause-path c =
@@ -77,18 +85,16 @@ returns-clause-extended c =
       frames = refl;
       left = λ mode above. left_extended mode p t _ c.requires.path above
           (run_front t.steps.items _ c.args.thread c.run-run.result.steps (steps_are c));
-      between = λ k some few. record {
-        reaches = run_reaches p t.steps.items c.args.thread c.run-run.result.steps t.node
-            c.step.new.self c.requires.path.reaches c.requires.enabled (used_is c)
-            c.step.ensures.last (goes_on c) k some (omega (arith, few));
-        enabled = among_are c k some few;
-      };
-      alone = λ more. both (at_bound c.args.mode c.step.new.self)
-          (has c.run-run.result.among c.args.thread) c.is_at_bound-alone.result
-          c.is_at_bound-alone.ensures (λ off. (let one = c.run-run.ensures.one off in
-          absurd (omega (arith, one, more)))) (c.run-run.ensures.on more);
+      between = λ k some few. run_reaches p t.steps.items c.args.thread c.run-run.result.steps
+          t.node c.step.new.self c.requires.path.reaches c.requires.enabled (used_is c)
+          c.step.ensures.last (goes_on c) k some (omega (arith, few));
+      enabled = goes_on c;
+      among = among_are c;
+      bound = λ more. is_so (at_bound c.args.mode c.step.new.self) c.is_at_bound-further.result
+          c.is_at_bound-further.ensures (λ off. (let one = c.run-run.ensures.one off in
+          absurd (omega (arith, one, more))));
     }
   where
-    both : (a b r : Bool) → r ≡ a → (r ≡ false → ⊥) → b ≡ true → (a && b) ≡ true
-    both true b r e h on = on
-    both false b r e h on = absurd (h e)
+    is_so : (a r : Bool) → r ≡ a → (r ≡ false → ⊥) → a ≡ true
+    is_so true r e h = refl
+    is_so false r e h = absurd (h e)

@@ -1,6 +1,4 @@
-use Rattle.std.proofs.Common.{◌≡◌, ◌<◌, ◌≤◌, ◌+◌, ◌||◌, not, take, length}
-use Rattle.semantics.specs.Ends.{is_empty}
-use Rattle.semantics.specs.Mask.{members_from}
+use Rattle.std.proofs.Common.{◌≡◌, ◌≤◌, ◌+◌, take, length}
 use Rattle.items.specs.Children.{cost_of}
 use Rattle.walk.specs.declared.found.Found.{Found}
 use Rattle.walk.specs.inner.WalkerInvariant.{item_of, IsAlong}
@@ -18,8 +16,5 @@ invariant-loop-place l = record {
       l.initial.self.node)
       ≤ cost_of (item_of l.item.program (take (l.from + 1) l.initial.self.steps.items)
       l.initial.self.node);
-  lists : l.found.lists ≡ l.initial.found.lists;
-  noted : l.from + 1 < l.place
-      → (l.found.part.beyond || not (is_empty (members_from l.others 0))) ≡ l.found.part.beyond;
   tried : l.found.part.tried ≡ l.initial.found.part.tried;
 }

@@ -65,13 +65,17 @@ returns-clause-settled g c = λ f.
     c.as_slice-places.ensures.value f in
     elim c.in_ok-_is_taken._is_taken as (λ taken. c.settle_all-settled.result ≡ Ok taken
     → HaveSettled old f.walks c.settle_all-settled.new.self
-    ⊎ AreNotTaken old round.items.items worker.places.items worker.found) [
+    ⊎ ((c.settle_all-settled.new.self ≡ old)
+    × AreNotTaken old round.items.items worker.places.items worker.found)) [
       | true ↦ λ e. inl (subst (λ z. HaveSettled z f.walks c.settle_all-settled.new.self)
           c.self.view_is (c.settle_all-settled.ensures.taken again e))
-      | false ↦ λ e. inr (subst (λ z. AreNotTaken z round.items.items worker.places.items
-          worker.found)
-          c.self.view_is (subst (λ ks. AreNotTaken b round.items.items ks worker.found)
-          c.as_slice-places.ensures.value
-          (subst (λ is. AreNotTaken b is c.as_slice-places.result.now worker.found)
-          c.as_slice-items.ensures.value (c.settle_all-settled.ensures.not_taken e))))
+      | false ↦ λ e. inr (
+        c.settle_all-settled.ensures.same (λ taken. let no : Ok false ≡ Ok true = sym e ∙ taken in
+            cc) ∙ c.self.view_is,
+        subst (λ z. AreNotTaken z round.items.items worker.places.items worker.found)
+            c.self.view_is (subst (λ ks. AreNotTaken b round.items.items ks worker.found)
+            c.as_slice-places.ensures.value
+            (subst (λ is. AreNotTaken b is c.as_slice-places.result.now worker.found)
+            c.as_slice-items.ensures.value (c.settle_all-settled.ensures.not_taken e))),
+      )
     ] c.in_ok-_is_taken.was
