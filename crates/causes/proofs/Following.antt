@@ -9,9 +9,10 @@ use Rattle.causes.specs.declared.backward_slice.BackwardSlice.{BackwardSlice}
 use Rattle.lint.specs.Uses.{local_set}
 use Rattle.causes.specs.Events.{written_by, is_end, reads, writes, is_use, sets_local, uses_local}
 use Rattle.causes.specs.Asked.{asks_for}
-use Rattle.causes.specs.Causes.{Marked, any_below, decides, flows_on, is_missed, is_missed_by, is_needed, is_next, is_read_from, least_with, ends_with}
+use Rattle.causes.specs.Causes.{Marked, any_below, decides, flows_on, is_missed, is_missed_by, is_needed, is_next, is_read, is_read_from, least_with, ends_with, passes_by_read}
 use Rattle.causes.specs.inner.Wanting.{IsValidEvent, IsWanted}
-use Rattle.causes.specs.inner.Keeping.{IsMovedBefore, count, decides_by, entry, found, is_missed_by_in, is_missed_in, needs}
+use Rattle.causes.specs.inner.Keeping.{IsMovedBefore, count, decides_by, entry, found, is_missed_by_in, is_missed_in, needs, passes_in, passes_read_in}
+use Rattle.causes.specs.Tests.{passes_write}
 use Rattle.std.proofs.lemmas.List.Sums.{sum_by-append}
 use Rattle.causes.proofs.Valid.{sets_few, writes_few}
 
@@ -62,7 +63,10 @@ needs_alike p before ms w e f v k =
     (both (is_missed_in w e.thread (written_by e.statement e.deed))
     (is_missed before ms e.thread (written_by e.statement e.deed)) _ _
     (missed_alike before ms w e.thread _ k (writes_few p e.statement e.deed f v.statement))
-    (ap (λ ends. list_any (λ end. asks_for p end e) ends) k.ends)))))
+    (both (passes_read_in p w e) (passes_by_read p ms e) _ _
+    (any_alike (passes_in p w e) (λ x. is_read ms x && passes_write p x e) VARIABLES
+    (λ x l. ap (λ b. b && passes_write p x e) (k.read x l)))
+    (ap (λ ends. list_any (λ end. asks_for p end e) ends) k.ends))))))
 
 -- one event more
 choice : (u mark rest : Bool) →

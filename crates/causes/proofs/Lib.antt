@@ -4,4 +4,5 @@ mod Marks
 mod Places
 mod Rows
 mod Runs
+mod Touched
 mod Valid

@@ -4,17 +4,17 @@ use Rattle.std.specs.Prelude.{Bool, true, false, cond, not, ◌||◌, ◌&&◌, 
 use Rattle.std.specs.List.{list_any, count_by}
 use Rattle.std.proofs.lemmas.List.{drop_all}
 use Rattle.std.proofs.lemmas.List.Folds.{list_any-append}
-use Rattle.std.proofs.lemmas.Bool.{eqb-true, eq-eqb, le-leb, lt-ltb, leb-true, ltb-true}
-use Rattle.guest_code.specs.declared.limits.TheConstants.{THREADS}
+use Rattle.std.proofs.lemmas.Bool.{eqb-true, eq-eqb, lt-ltb, ltb-true}
+use Rattle.guest_code.specs.declared.limits.TheConstants.{THREADS, VARIABLES}
 use Rattle.guest_code.specs.Program.{Program, code_of}
 use Rattle.causes.specs.declared.event.Event.{Event}
 use Rattle.lint.specs.Uses.{is, local_set}
 use Rattle.causes.specs.Events.{is_end, is_use, reads, sets_local, uses_local, writes, written_by}
 use Rattle.causes.specs.Asked.{asks_for}
 use Rattle.lint.specs.Paths.{is_test}
-use Rattle.causes.specs.Tests.{merge_point}
-use Rattle.causes.specs.Causes.{Marked, NoneOf, any_below, decides, ends_in, event_at, flows_on, is_missed, is_missed_by, is_needed, is_next, is_read_from, is_up_to, least_in, least_with, lesser, marked, marks_in, no_event, soon}
-use Rattle.causes.specs.Needs.{AreMarks, Asks, FlowsFrom, InCause, IsDecidedBy, Misses, ReadsFrom, ends, needed}
+use Rattle.causes.specs.Tests.{merge_point, passes_write}
+use Rattle.causes.specs.Causes.{Marked, NoneOf, any_below, decides, ends_in, event_at, flows_on, is_missed, is_missed_by, is_needed, is_next, is_read, is_read_from, is_below, least_in, least_with, lesser, marked, marks_in, no_event, passes_by_read, soon}
+use Rattle.causes.specs.Needs.{AreMarks, Asks, FlowsFrom, InCause, IsDecidedBy, Misses, ReadsFrom, ReadsPast, ends, needed}
 use Rattle.causes.proofs.Places.{marked_at, rest_marked}
 use Rattle.causes.proofs.Rows.{count_first, true_below}
 
@@ -22,17 +22,17 @@ or_true : (a b : Bool) → (a || b) ≡ true → (a ≡ true) ⊎ (b ≡ true)
 or_true true b h = inl refl
 or_true false b h = inr h
 
-and_true : (a b : Bool) → (a && b) ≡ true → (a ≡ true) × (b ≡ true)
+pub and_true : (a b : Bool) → (a && b) ≡ true → (a ≡ true) × (b ≡ true)
 and_true true b h = (refl, h)
 and_true false b h = absurd cc
 
-both_true : (a b : Bool) → a ≡ true → b ≡ true → (a && b) ≡ true
+pub both_true : (a b : Bool) → a ≡ true → b ≡ true → (a && b) ≡ true
 both_true a b e f = ap (λ x. x && b) e ∙ f
 
-left_true : (a b : Bool) → a ≡ true → (a || b) ≡ true
+pub left_true : (a b : Bool) → a ≡ true → (a || b) ≡ true
 left_true a b e = ap (λ x. x || b) e
 
-right_true : (a b : Bool) → b ≡ true → (a || b) ≡ true
+pub right_true : (a b : Bool) → b ≡ true → (a || b) ≡ true
 right_true true b e = refl
 right_true false b e = e
 
@@ -394,16 +394,16 @@ module _ (p : Program) (events : List Event) (k : ℕ) (l : k < length events) w
         };
       }
 
-  up_to_le : (n : ℕ) (o : Option ℕ) → is_up_to n o ≡ true → (m : ℕ) × (o ≡ Some m) × (m ≤ n)
-  up_to_le n None h = absurd cc
-  up_to_le n (Some m) h = (m, refl, leb-true m n h)
+  below_lt : (n : ℕ) (o : Option ℕ) → is_below n o ≡ true → (m : ℕ) × (o ≡ Some m) × (m < n)
+  below_lt n None h = absurd cc
+  below_lt n (Some m) h = (m, refl, ltb-true m n h)
 
   deciding : decides p (rest_marked p events (k + 1)) (event_at events k) ≡ true →
       Later p events k (λ j. IsDecidedBy p events j k)
   deciding h =
       let t = (event_at events k).thread in
       let two = and_true (is_test (event_at events k).statement) _ h in
-      let m = up_to_le _ (least_in (rest_marked p events (k + 1)) t) two.1 in
+      let m = below_lt _ (least_in (rest_marked p events (k + 1)) t) two.1 in
       let f = least_found p events t (length events - (k + 1)) (k + 1) m.0 rest_of m.1 in
       record {
         place = f.place;
@@ -413,7 +413,7 @@ module _ (p : Program) (events : List Event) (k : ℕ) (l : k < length events) w
         is = record {
           thread = f.thread;
           test = two.0;
-          reaches = let a = f.is in let b = m.2 in omega (arith, a, b);
+          within = let a = f.is in let b = m.2 in omega (arith, a, b);
         };
       }
 
@@ -423,6 +423,27 @@ module _ (p : Program) (events : List Event) (k : ℕ) (l : k < length events) w
     | inl a ↦ some_below f n a
     | inr b ↦ (n, b)
   ]
+
+  passing : passes_by_read p (rest_marked p events (k + 1)) (event_at events k) ≡ true →
+      Later p events k (λ j. ReadsPast p events j k)
+  passing h =
+      let some = some_below (λ x. is_read (rest_marked p events (k + 1)) x
+      && passes_write p x (event_at events k)) VARIABLES h in
+      let two = and_true (is_read (rest_marked p events (k + 1)) some.0) _ some.1 in
+      let f = found p events (reads some.0) (writes some.0) (length events - (k + 1)) (k + 1)
+      rest_of two.0 in
+      record {
+        place = f.place;
+        after = let a = f.from in omega (arith, a);
+        inside = f.inside;
+        marks = f.marks;
+        is = record {
+          variable = some.0;
+          reads = f.is;
+          passed = two.1;
+          last = f.none;
+        };
+      }
 
   some_counted : (f : Event → Bool) (xs : List Event) → 0 < count_by f xs →
       (i : ℕ) × (i < length xs) × (f (get_or xs i no_event) ≡ true)
@@ -521,11 +542,17 @@ module _ (p : Program) (events : List Event) (k : ℕ) (l : k < length events) w
                             | inl a ↦ (let f = missing _ refl a in
                                 needed f.place k f.after (inr (inr (inr (inl f.is))))
                                 (after f.place f.after f.inside f.marks))
-                            | inr a ↦ (let f = asking a in
-                                let later : k < f.place = (let b = f.from in omega (arith, b)) in
-                                needed f.place k later
-                                (inr (inr (inr (inr (record { end = f.end; asks = f.is })))))
-                                (ends f.place f.inside f.end))
+                            | inr r4 ↦ elim (or_true (passes_by_read p (rest_marked p events (k + 1))
+                                (event_at events k)) _ r4) [
+                                  | inl a ↦ (let f = passing a in
+                                      needed f.place k f.after (inr (inr (inr (inr (inl f.is)))))
+                                      (after f.place f.after f.inside f.marks))
+                                  | inr a ↦ (let f = asking a in
+                                      let later : k < f.place = (let b = f.from in omega (arith, b)) in
+                                      needed f.place k later
+                                      (inr (inr (inr (inr (inr (record { end = f.end; asks = f.is }))))))
+                                      (ends f.place f.inside f.end))
+                                ]
                           ]
                     ]
               ]
@@ -545,7 +572,7 @@ marked_from p events (suc left) k e j a b m = elim (upto j k a) [
 ]
 
 -- each event in the cause is there, and is marked
-in_run : (p : Program) (events : List Event) (k : ℕ) → InCause p events k → k < length events
+pub in_run : (p : Program) (events : List Event) (k : ℕ) → InCause p events k → k < length events
 in_run p events _ (ends k l e) = l
 in_run p events _ (needed j k l n c) = let m = in_run p events j c in omega (arith, l, m)
 
@@ -588,9 +615,9 @@ module _ (p : Program) (events : List Event) (j k : ℕ) (l : k < j) (m : j < le
       (local_set (event_at events k).statement)) _
       (left_true (decides p (rest_marked p events (k + 1)) (event_at events k)) _
       (both_true (is_test (event_at events k).statement) _ r.test
-      (ap (λ o. is_up_to (merge_point (code_of p t) (event_at events k).instruction) o) least.1
-      ∙ le-leb least.0 (merge_point (code_of p t) (event_at events k).instruction)
-      (let a = least.2 in let b = r.reaches in omega (arith, a, b)))))))
+      (ap (λ o. is_below (merge_point (code_of p t) (event_at events k).instruction) o) least.1
+      ∙ lt-ltb least.0 (merge_point (code_of p t) (event_at events k).instruction)
+      (let a = least.2 in let b = r.within in omega (arith, a, b)))))))
 
   counted : (f : Event → Bool) (xs : List Event) (i : ℕ) → i < length xs →
       f (get_or xs i no_event) ≡ true → 0 < count_by f xs
@@ -633,6 +660,24 @@ module _ (p : Program) (events : List Event) (j k : ℕ) (l : k < j) (m : j < le
           one true e = absurd (n (eqb-true a b e))
           one false e = e
 
+  by_past : ((x : ℕ) → reads x (event_at events j) ≡ true → x < VARIABLES) →
+      ReadsPast p events j k → mark_at p events k ≡ true
+  by_past few r = let t = (event_at events k).thread in
+      right_true (is_end (event_at events k)) _ (right_true (is_read_from
+      (rest_marked p events (k + 1))
+      (written_by (event_at events k).statement (event_at events k).deed)) _
+      (right_true (flows_on (rest_marked p events (k + 1)) t
+      (local_set (event_at events k).statement)) _
+      (right_true (decides p (rest_marked p events (k + 1)) (event_at events k)) _
+      (right_true (is_missed (take (k + 1) events) (rest_marked p events (k + 1)) t
+      (written_by (event_at events k).statement (event_at events k).deed)) _
+      (left_true (passes_by_read p (rest_marked p events (k + 1)) (event_at events k)) _
+      (true_below (λ x. is_read (rest_marked p events (k + 1)) x
+      && passes_write p x (event_at events k)) VARIABLES r.variable (few r.variable r.reads)
+      (both_true (is_read (rest_marked p events (k + 1)) r.variable) _
+      (sought p events (reads r.variable) (writes r.variable) (length events - (k + 1))
+      (k + 1) j inside (omega (arith, l)) m marks r.reads r.last) r.passed)))))))
+
   by_ask : Asks p events j k → mark_at p events k ≡ true
   by_ask r = let t = (event_at events k).thread in
       right_true (is_end (event_at events k)) _ (right_true (is_read_from
@@ -643,15 +688,17 @@ module _ (p : Program) (events : List Event) (j k : ℕ) (l : k < j) (m : j < le
       (right_true (decides p (rest_marked p events (k + 1)) (event_at events k)) _
       (right_true (is_missed (take (k + 1) events) (rest_marked p events (k + 1)) t
       (written_by (event_at events k).statement (event_at events k).deed)) _
+      (right_true (passes_by_read p (rest_marked p events (k + 1)) (event_at events k)) _
       (end_seen p events (λ end. asks_for p end (event_at events k)) (length events - (k + 1))
-      (k + 1) j inside (omega (arith, l)) m r.end r.asks)))))
+      (k + 1) j inside (omega (arith, l)) m r.end r.asks))))))
 
 complete : (p : Program) (events : List Event) →
     ((i : ℕ) → i < length events → (event_at events i).thread < THREADS) →
+    ((i : ℕ) → i < length events → (x : ℕ) → reads x (event_at events i) ≡ true → x < VARIABLES) →
     (k : ℕ) → InCause p events k → mark_at p events k ≡ true
-complete p events few _ (ends k l e) = left_true (is_end (event_at events k)) _ e
-complete p events few _ (needed j k l n c) =
-    let m = complete p events few j c in
+complete p events few known _ (ends k l e) = left_true (is_end (event_at events k)) _ e
+complete p events few known _ (needed j k l n c) =
+    let m = complete p events few known j c in
     let b = in_run p events j c in
     elim n [
       | inl r ↦ by_read p events j k l b m r
@@ -661,7 +708,10 @@ complete p events few _ (needed j k l n c) =
           | inl r ↦ by_test p events j k l b m r
           | inr n3 ↦ elim n3 [
             | inl r ↦ by_miss p events j k l b m (few j b) r
-            | inr r ↦ by_ask p events j k l b m r
+            | inr n4 ↦ elim n4 [
+              | inl r ↦ by_past p events j k l b m (known j b) r
+              | inr r ↦ by_ask p events j k l b m r
+            ]
           ]
         ]
       ]
@@ -689,8 +739,9 @@ as_many p before (e ∷ es) = ap suc (as_many p (before ++ e ∷ []) es)
 
 pub marks_are_the_cause : (p : Program) (events : List Event) →
     ((i : ℕ) → i < length events → (event_at events i).thread < THREADS) →
+    ((i : ℕ) → i < length events → (x : ℕ) → reads x (event_at events i) ≡ true → x < VARIABLES) →
     AreMarks p events (marks_in (marked p [] events))
-marks_are_the_cause p events few = record {
+marks_are_the_cause p events few known = record {
   all = as_many p [] events;
   each = λ k l. (
     (λ h. marked_from p events (length events) 0 (omega arith) k (omega arith) l
@@ -698,6 +749,6 @@ marks_are_the_cause p events few = record {
         ∙ ap (λ n. mark_at p events n) (let z : 0 + k ≡ k = omega arith in z)) ∙ h)),
     (λ c. mark_there p events (length events) 0 k (omega arith) l
         ∙ (ap (λ n. mark_at p events n) (let z : 0 + k ≡ k = omega arith in z)
-        ∙ complete p events few k c)),
+        ∙ complete p events few known k c)),
   );
 }

@@ -2,6 +2,7 @@
 use Rattle.std.proofs.Common.{◌≡◌, ℕ, zero, suc, ◌+◌, ◌<◌, ◌≤◌, ℤ, List, [], ◌∷◌, ◌++◌, length, drop, length-drop, Option, Some, None, refl, ap, subst, arith}
 use Rattle.std.specs.Prelude.{Bool, true, false, IfSome, nat_eq, slice_get, slice_index_or, if◌then◌else◌}
 use Rattle.std.specs.List.{All, list_any}
+use Rattle.std.proofs.lemmas.Bool.{eqb-true}
 use Rattle.guest_code.specs.declared.limits.TheConstants.{LOCALS, VARIABLES}
 use Rattle.guest_code.specs.declared.program.Instruction.{Instruction}
 use Rattle.guest_code.specs.declared.program.Instruction.TheVariants.{Load, Store, Add, Cas, Lock, Unlock, Wait, Signal, Broadcast, Acquire, Release, Set, Assert, SkipIfZero, Skip}
@@ -18,7 +19,7 @@ use Rattle.explain.specs.declared.step.Step.{Step}
 use Rattle.causes.specs.declared.event.Deed.{Deed}
 use Rattle.causes.specs.declared.event.Deed.TheVariants.{Stepped, Blocked}
 use Rattle.causes.specs.declared.event.Event.{Event}
-use Rattle.lint.specs.Uses.{local_set, variable_used}
+use Rattle.lint.specs.Uses.{is, local_set, variable_read, variable_used}
 use Rattle.causes.specs.Events.{written_by}
 use Rattle.causes.specs.Course.{all_after, all_zero, blocked_by, blocked_from, blocked_in, course, events_by, events_from, events_in, listed, local_events, opening_from, owner_for, row, visible_event}
 use Rattle.causes.specs.inner.Wanting.{IsValidEvent}
@@ -42,6 +43,16 @@ uses_few p (Store x a) f v = below p x f v.0
 uses_few p (Add r x a) f v = below p x f v.1
 uses_few p (Cas r x a b) f v = below p x f v.1
 uses_few p i f v = tt
+
+pub reads_few : (p : Program) (i : Instruction) (x : ℕ) → IsWellFormed p → IsValid p i →
+    is x (variable_read i) ≡ true → x < VARIABLES
+reads_few p (Load r y) x f v h =
+    let e = eqb-true y x h in let l = below p y f v.1 in omega (arith, e, l)
+reads_few p (Add r y a) x f v h =
+    let e = eqb-true y x h in let l = below p y f v.1 in omega (arith, e, l)
+reads_few p (Cas r y a b) x f v h =
+    let e = eqb-true y x h in let l = below p y f v.1 in omega (arith, e, l)
+reads_few p i x f v h = absurd cc
 
 pub sets_few : (p : Program) (i : Instruction) → IsValid p i →
     IfSome (local_set i) (λ r. r < LOCALS)

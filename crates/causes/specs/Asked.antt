@@ -7,10 +7,11 @@ use Rattle.guest_code.specs.Program.{Program, code_of}
 use Rattle.explain.specs.declared.explanation.Holder.{Holder}
 use Rattle.explain.specs.declared.thread_state.Reason.{Reason}
 use Rattle.explain.specs.declared.thread_state.Reason.TheVariants as reasons
+use Rattle.explain.specs.Blocked.{could_end}
 use Rattle.causes.specs.declared.event.Deed.{Deed}
 use Rattle.causes.specs.declared.event.Deed.TheVariants.{Stepped, Ran, Blocked}
 use Rattle.causes.specs.declared.event.Event.{Event}
-use Rattle.lint.specs.Uses.{is, names_mutex, names_condition, names_semaphore, signals, releases}
+use Rattle.lint.specs.Uses.{is, names_mutex, names_condition, names_semaphore}
 use Rattle.causes.specs.Events.{is_step, jump_by}
 
 -- a statement names the mutex or the semaphore at which a thread stops at the first statement
@@ -19,14 +20,6 @@ shares_object (Unlock m) i = names_mutex m i
 shares_object (Wait c m) i = names_mutex m i
 shares_object (Release k) i = names_semaphore k i
 shares_object _ i = false
-
--- a statement could end a wait for this reason: it gives the mutex back, wakes, or releases
-abbrev pub could_end : Reason → Instruction → Bool
-could_end (reasons.Lock m) (Unlock n) = nat_eq n m
-could_end (reasons.Retake m) (Unlock n) = nat_eq n m
-could_end (reasons.Signal c) i = signals c i
-could_end (reasons.Acquire k) i = releases k i
-could_end _ _ = false
 
 -- an event passes over a statement that could end a wait for this reason
 abbrev pub passes_by : Program → Event → Reason → Bool
@@ -47,7 +40,7 @@ abbrev pub is_by_owner : Holder → Event → Bool
 is_by_owner holder e = nat_eq e.thread holder.thread && is_not_before holder.since e.step
 
 -- a thread that waits for a mutex asks for an event, where this is who owns it: for the step by
--- which the owner took it, and where the owner passed an `unlock` of it by since then
+-- which the owner took it, and where the owner passed by since then what gives it back
 abbrev pub is_asked_of_owner : Program → Reason → Option Holder → Event → Bool
 is_asked_of_owner p reason None e = false
 is_asked_of_owner p reason (Some holder) e =

@@ -1,9 +1,9 @@
 -- Which events of a run are in the cause of how it ended. They are marked from the last one on: an
 -- event is in the cause where it is an end of the run, or where one after it, which is in the
 -- cause, needs it.
-use Rattle.std.specs.Prelude.{◌≡◌, ℕ, zero, suc, ◌<◌, ◌≤◌, ◌↔◌, nat_eq, nat_lt, nat_le, pos, Bool, true, false, not, ◌||◌, ◌&&◌, List, [], ◌∷◌, ◌++◌, map, length, Option, Some, None, slice_index_or, if◌then◌else◌}
+use Rattle.std.specs.Prelude.{◌≡◌, ℕ, zero, suc, ◌<◌, ◌≤◌, ◌↔◌, nat_eq, nat_lt, pos, Bool, true, false, not, ◌||◌, ◌&&◌, List, [], ◌∷◌, ◌++◌, map, length, Option, Some, None, slice_index_or, if◌then◌else◌}
 use Rattle.std.specs.List.{list_any, count_by}
-use Rattle.guest_code.specs.declared.limits.TheConstants.{THREADS}
+use Rattle.guest_code.specs.declared.limits.TheConstants.{THREADS, VARIABLES}
 use Rattle.guest_code.specs.declared.program.Instruction.TheVariants.{Skip}
 use Rattle.guest_code.specs.Program.{Program, code_of}
 use Rattle.causes.specs.declared.event.Deed.TheVariants.{Ran}
@@ -12,7 +12,7 @@ use Rattle.lint.specs.Uses.{local_set}
 use Rattle.causes.specs.Events.{written_by, is_end, reads, writes, is_use, sets_local, uses_local}
 use Rattle.causes.specs.Asked.{asks_for}
 use Rattle.lint.specs.Paths.{is_test}
-use Rattle.causes.specs.Tests.{merge_point}
+use Rattle.causes.specs.Tests.{merge_point, passes_write}
 
 -- an event, and whether it is in the cause
 pub record Marked : Type 0 where
@@ -51,10 +51,10 @@ least_in [] t = None
 least_in (m ∷ ms) t = least_with (least_in ms t) m.event.instruction
     (m.mark && nat_eq m.event.thread t)
 
--- it is there and not above n
-abbrev pub is_up_to : ℕ → Option ℕ → Bool
-is_up_to n None = false
-is_up_to n (Some m) = nat_le m n
+-- it is there and below n
+abbrev pub is_below : ℕ → Option ℕ → Bool
+is_below n None = false
+is_below n (Some m) = nat_lt m n
 
 -- these ends, with this event where it is one
 abbrev pub ends_with : List Event → Event → List Event
@@ -92,14 +92,18 @@ is_missed before ms t (Some x) = any_below (is_missed_by before ms t x) THREADS
 -- an event is a test by which its thread came to one in the cause
 abbrev pub decides : Program → List Marked → Event → Bool
 decides p ms e = is_test e.statement
-    && is_up_to (merge_point (code_of p e.thread) e.instruction) (least_in ms e.thread)
+    && is_below (merge_point (code_of p e.thread) e.instruction) (least_in ms e.thread)
+
+-- an event is a test that passed by what would have written a variable that is read
+abbrev pub passes_by_read : Program → List Marked → Event → Bool
+passes_by_read p ms e = any_below (λ x. is_read ms x && passes_write p x e) VARIABLES
 
 -- an event is needed by those after it, where these are the events up to it
 abbrev pub is_needed : Program → List Event → List Marked → Event → Bool
 is_needed p before ms e = is_end e || (is_read_from ms (written_by e.statement e.deed)
     || (flows_on ms e.thread (local_set e.statement) || (decides p ms e
-    || (is_missed before ms e.thread (written_by e.statement e.deed)
-    || list_any (λ end. asks_for p end e) (ends_in ms)))))
+    || (is_missed before ms e.thread (written_by e.statement e.deed) || (passes_by_read p ms e
+    || list_any (λ end. asks_for p end e) (ends_in ms))))))
 
 -- these events after those, each with its mark
 abbrev pub marked : Program → List Event → List Event → List Marked

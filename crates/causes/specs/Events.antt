@@ -1,5 +1,5 @@
 -- What is to be seen of one thing that happens in a run.
-use Rattle.std.specs.Prelude.{ℕ, nat_eq, ℤ, pos, Bool, true, false, ◌||◌, ◌&&◌, Option, Some, None, is_some, if◌then◌else◌}
+use Rattle.std.specs.Prelude.{ℕ, ◌-◌, nat_eq, nat_lt, nat_le, ℤ, pos, Bool, true, false, ◌||◌, ◌&&◌, Option, Some, None, is_some, if◌then◌else◌}
 use Rattle.guest_code.specs.declared.program.Instruction.{Instruction}
 use Rattle.guest_code.specs.declared.program.Instruction.TheVariants.{Store, Add, Cas, Assert, SkipIfZero, Skip}
 use Rattle.semantics.specs.declared.state.Stop.{Stop}
@@ -38,6 +38,11 @@ jump_by (SkipIfZero e n) (Ran v) = if is_zero v then n else 0
 jump_by (Skip n) d = n
 jump_by i d = 0
 
+-- it passes over instruction i of its thread
+abbrev pub jumps_over : Event → ℕ → Bool
+jumps_over e i =
+    nat_lt e.instruction i && nat_le (i - e.instruction) (jump_by e.statement e.deed)
+
 -- it is the step of a visible statement
 abbrev pub is_step : Deed → Bool
 is_step (Stepped act stop) = true
@@ -71,3 +76,7 @@ sets_local t r e = nat_eq e.thread t && is r (local_set e.statement)
 
 abbrev pub uses_local : ℕ → ℕ → Event → Bool
 uses_local t r e = nat_eq e.thread t && reads_local r e.statement
+
+-- it is of thread t, and passes over instruction i
+abbrev pub is_jump_over : ℕ → ℕ → Event → Bool
+is_jump_over t i e = nat_eq e.thread t && jumps_over e i

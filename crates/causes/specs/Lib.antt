@@ -5,5 +5,7 @@ pub mod Tests
 pub mod Causes
 pub mod Needs
 pub mod Origins
+pub mod Changes
 pub mod Told
+pub mod Touching
 pub mod inner

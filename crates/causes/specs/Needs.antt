@@ -1,12 +1,12 @@
 -- The cause of how a run ended, as a relation between events: the least set that has the ends of the
 -- run and, with each event, those before it that it needs.
-use Rattle.std.specs.Prelude.{◌≡◌, ◌≢◌, ◌⊎◌, ℕ, ◌+◌, ◌<◌, ◌≤◌, ◌↔◌, Bool, true, false, List, length, slice_index_or}
+use Rattle.std.specs.Prelude.{◌≡◌, ◌≢◌, ◌⊎◌, ℕ, ◌+◌, ◌<◌, ◌↔◌, Bool, true, false, List, length, slice_index_or}
 use Rattle.guest_code.specs.Program.{Program, code_of}
 use Rattle.causes.specs.declared.event.Event.{Event}
 use Rattle.causes.specs.Events.{is_end, reads, writes, is_use, sets_local, uses_local}
 use Rattle.causes.specs.Asked.{asks_for}
 use Rattle.lint.specs.Paths.{is_test}
-use Rattle.causes.specs.Tests.{merge_point}
+use Rattle.causes.specs.Tests.{merge_point, passes_write}
 use Rattle.causes.specs.Causes.{event_at, NoneOf}
 
 -- the event at place j reads a variable that the one at place k wrote last
@@ -24,12 +24,12 @@ pub record FlowsFrom (events : List Event) (j k : ℕ) : Type 0 where
   pub last : NoneOf events (sets_local (event_at events k).thread local) (k + 1) j
 
 -- its thread comes to it by the test at place k: it is among what the test's jump, or a jump among
--- that, passes over, or the instruction after those
+-- that, passes over, and so comes before the point to which both ways of the test lead
 pub record IsDecidedBy (p : Program) (events : List Event) (j k : ℕ) : Type 0 where
   pub thread : (event_at events j).thread ≡ (event_at events k).thread
   pub test : is_test (event_at events k).statement ≡ true
-  pub reaches : (event_at events j).instruction
-      ≤ merge_point (code_of p (event_at events k).thread) (event_at events k).instruction
+  pub within : (event_at events j).instruction
+      < merge_point (code_of p (event_at events k).thread) (event_at events k).instruction
 
 -- it uses a variable, its thread used that before, and between the two uses another thread wrote
 -- it, at place k
@@ -43,6 +43,14 @@ pub record Misses (events : List Event) (j k : ℕ) : Type 0 where
   pub writes : writes variable (event_at events k) ≡ true
   pub other : (event_at events j).thread ≢ (event_at events k).thread
 
+-- it reads a variable, and the test at place k passed a statement by which would have written it,
+-- after what wrote it last
+pub record ReadsPast (p : Program) (events : List Event) (j k : ℕ) : Type 0 where
+  pub variable : ℕ
+  pub reads : reads variable (event_at events j) ≡ true
+  pub passed : passes_write p variable (event_at events k) ≡ true
+  pub last : NoneOf events (writes variable) (k + 1) j
+
 -- it is an end of the run, and asks for the one at place k
 pub record Asks (p : Program) (events : List Event) (j k : ℕ) : Type 0 where
   pub end : is_end (event_at events j) ≡ true
@@ -51,7 +59,8 @@ pub record Asks (p : Program) (events : List Event) (j k : ℕ) : Type 0 where
 -- the event at place j needs the one at place k, before it
 abbrev pub Needs : Program → List Event → ℕ → ℕ → Type 0
 Needs p events j k = ReadsFrom events j k ⊎ (FlowsFrom events j k
-    ⊎ (IsDecidedBy p events j k ⊎ (Misses events j k ⊎ Asks p events j k)))
+    ⊎ (IsDecidedBy p events j k ⊎ (Misses events j k
+    ⊎ (ReadsPast p events j k ⊎ Asks p events j k))))
 
 -- the event at place k is in the cause: it is an end of the run, or one in the cause, after it,
 -- needs it

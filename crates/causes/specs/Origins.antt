@@ -8,8 +8,8 @@ use Rattle.causes.specs.declared.event.Deed.TheVariants.{Stepped}
 use Rattle.causes.specs.declared.event.Event.{Event}
 use Rattle.causes.specs.declared.failure.Failure.{Failure}
 use Rattle.causes.specs.declared.origins.EventRole.{EventRole}
-use Rattle.causes.specs.declared.origins.EventRole.TheVariants.{Setter, Writer, OwnerChanger}
-use Rattle.causes.specs.Events.{stop_by, sets_local, writes}
+use Rattle.causes.specs.declared.origins.EventRole.TheVariants.{Setter, Writer, Jumper, OwnerChanger}
+use Rattle.causes.specs.Events.{stop_by, sets_local, writes, is_jump_over}
 use Rattle.causes.specs.Causes.{event_at, NoneOf}
 
 -- place k is the last one before `at` whose event is so
@@ -38,6 +38,7 @@ moves m e = takes_by m e.deed || gives_by m e.deed
 abbrev pub has_role : EventRole → Event → Bool
 has_role (Setter t r) e = sets_local t r e
 has_role (Writer x) e = writes x e
+has_role (Jumper t i) e = is_jump_over t i e
 has_role (OwnerChanger m) e = moves m e
 
 -- mutex m is owned before place `at` since the event at place k, which took it: since then nobody

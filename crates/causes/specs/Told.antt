@@ -9,7 +9,8 @@ use Rattle.causes.specs.Needs.{AreMarks}
 use Rattle.causes.specs.Origins.{IsFailure, stops}
 
 -- of a run that is explained so: what happened, what of it is in the cause, in which steps, and
--- where the run failed
+-- where the run failed. Where another program is explained so, `course` takes its steps for those at
+-- the instructions of the same numbers, without those that are not there
 pub record Tells (p : Program) (run : Explanation) (told : Causes) : Type 0 where
   pub events : told.events.items ≡ course p run
   pub marks : AreMarks p told.events.items told.marks.items

@@ -3,7 +3,7 @@
 ghost use Rattle.std.specs.Prelude.{◌≡◌, ℕ, ◌<◌, ◌+◌, ◌-◌, ◌^◌, ◌||◌, ◌&&◌, not, false, [], length, All, IfSome, OnOk, Option, None, slice_index_or, if◌then◌else◌};
 ghost use Rattle.std.specs.List.{list_any};
 ghost use Rattle.guest_code.specs.declared.limits.TheConstants.{THREADS, LOCALS, VARIABLES};
-ghost use Rattle.guest_code.specs.Program.{Program, JumpsWithin, skip_of};
+ghost use Rattle.guest_code.specs.Program.{Program};
 ghost use Rattle.lint.specs.Uses.{is, local_set, reads as uses_value, variable_used};
 ghost use Rattle.causes.specs.Events.{reads, writes};
 ghost use Rattle.causes.specs.Asked.{asks_for};
@@ -11,13 +11,14 @@ ghost use Rattle.lint.specs.Paths.{is_test};
 ghost use Rattle.causes.specs.Tests.{merge_point};
 ghost use Rattle.causes.specs.Causes.{any_below, ends_with, least_with, lesser};
 ghost use Rattle.causes.specs.inner.Wanting.{IsValidEvent, IsWanted};
-ghost use Rattle.causes.specs.inner.Keeping.{IsMovedBefore, decides_by, found, is_missed_by_in, is_missed_in, needs};
+ghost use Rattle.causes.specs.inner.Keeping.{IsMovedBefore, decides_by, found, is_missed_by_in, is_missed_in, needs, passes_in, passes_read_in};
 
+use crate::decisions::{merge_point, passes_write};
 use crate::direct_cause::is_direct_cause;
 use crate::event::Event;
 use guest_code::limits::{LOCALS, THREADS, VARIABLES};
-use guest_code::program::{Instruction, Program};
-use lint::paths::{is_test, skip_of};
+use guest_code::program::Program;
+use lint::paths::is_test;
 use lint::uses::{is_some_of, reads, variable_used};
 use std::alloc::{AllocError, Global};
 
@@ -69,7 +70,8 @@ impl BackwardSlice {
 
     /// Whether an event, the next one going back, is in the cause: whether it is an end of the run,
     /// or a later event of the cause depends on it, for its value, as a test, as a write between
-    /// two uses of the variable by another thread, or as a direct cause of an end.
+    /// two uses of the variable by another thread, as a test that passed by a write of what is read,
+    /// or as a direct cause of an end.
     pub fn needs(&self, program: &Program, event: &Event) -> bool
         requires { IsValidEvent program.now event.now }
         ensures { result ≡ needs program.now self.now event.now }
@@ -80,6 +82,7 @@ impl BackwardSlice {
             || self.is_assignment_used(event.thread, event.local_set())
             || self.is_deciding_test(program, event)
             || self.interferes(event.thread, event.variable_written())
+            || self.passes_read(program, event)
             || self.is_direct_cause_of_end(program, event)
     }
 
@@ -109,8 +112,8 @@ impl BackwardSlice {
     }
 
     // Whether an event, the next one going back, is a test on which the cause may depend: whether
-    // some later event of its thread is in the cause, at the instruction at which the branches of
-    // the test merge or at one before it.
+    // some later event of its thread is in the cause, at an instruction before the one at which the
+    // branches of the test merge.
     fn is_deciding_test(&self, program: &Program, event: &Event) -> bool
         requires { IsValidEvent program.now event.now }
         ensures { result ≡ decides_by program.now event.now
@@ -121,7 +124,7 @@ impl BackwardSlice {
             return false;
         }
         match self.least[event.thread as usize] {
-            Some(least) => least <= merge_point(program.code(event.thread), event.instruction),
+            Some(least) => least < merge_point(program.code(event.thread), event.instruction),
             None => false,
         }
     }
@@ -162,6 +165,30 @@ impl BackwardSlice {
         ensures { result ≡ is_missed_by_in self.now thread variable other }
     {
         other != thread && self.next[other][variable] && self.uses[other][variable] > 0
+    }
+
+    // Whether an event, the next one going back, is a test by which its thread passed by a statement
+    // that writes a variable whose value then an event of the cause reads.
+    fn passes_read(&self, program: &Program, event: &Event) -> bool
+        requires { IsValidEvent program.now event.now }
+        ensures { result ≡ passes_read_in program.now self.now event.now }
+    {
+        for variable in 0..VARIABLES {
+            if self.passes_read_of(program, event, variable) {
+                return true;
+            }
+        }
+        false
+    }
+
+    // Whether an event, the next one going back, is such a test for this variable.
+    fn passes_read_of(&self, program: &Program, event: &Event, variable: usize) -> bool
+        requires event { IsValidEvent program.now event.now }
+        requires variable { variable < VARIABLES }
+        ensures { result ≡ passes_in program.now self.now event.now variable }
+    {
+        let passes = passes_write(program, event, variable);
+        self.read[variable] && passes
     }
 
     // Whether an event, the next one going back, is a direct cause of a later end of the run: of
@@ -303,23 +330,4 @@ fn min_or(least: Option<usize>, instruction: usize) -> usize
         Some(least) if least < instruction => least,
         _ => instruction,
     }
-}
-
-// The number of the instruction at which the branches of the jump of number `instruction` merge:
-// the first after all instructions that this jump passes over, and that the jumps among those pass
-// over; the length of the code where they merge at its end. All jumps go forwards.
-fn merge_point(code: &[Instruction], instruction: usize) -> usize
-    requires short { length code.now < 2 ^ 32 }
-    requires jumps { JumpsWithin code.now }
-    requires inside { instruction < length code.now }
-    ensures { result ≡ merge_point code.now instruction }
-{
-    let mut reach = instruction + 1;
-    for at in instruction..code.len() {
-        if at >= reach {
-            return reach;
-        }
-        reach = reach.max(at + 1 + skip_of(&code[at]));
-    }
-    reach
 }

@@ -25,8 +25,10 @@ pub struct Causes {
 
 impl Causes {
     /// The events of the run of `program` that `explanation` is of, which events and which steps
-    /// are in the cause of how it ended, and in which event a thread first stopped in an error.
-    /// Fails where memory runs out.
+    /// are in the cause of how it ended, and in which event a thread first stopped in an error. An
+    /// explanation of another program is told as if it were of this one: its steps are taken to be
+    /// at the instructions of the same numbers here, and those that aren't here are left out. Fails
+    /// where memory runs out.
     pub fn of(
         alloc: Global,
         program: &Program,

@@ -2,7 +2,8 @@
 
 ghost use Rattle.std.specs.Prelude.{◌≡◌};
 ghost use Rattle.std.specs.List.{list_any};
-ghost use Rattle.causes.specs.Asked.{asks_for, could_end, is_asked_of_owner, is_by_owner, is_not_before, took_mutex, passes_by, shares_object};
+ghost use Rattle.explain.specs.Blocked.{could_end};
+ghost use Rattle.causes.specs.Asked.{asks_for, is_asked_of_owner, is_by_owner, is_not_before, took_mutex, passes_by, shares_object};
 ghost use Rattle.causes.specs.inner.Wanting.{IsValidEvent};
 
 use crate::event::{Deed, Event};
@@ -15,7 +16,7 @@ use lint::uses::{Use, is_some_of};
 ///
 /// - where it stopped at a mutex or a semaphore: each statement that names that object
 /// - where it waits for a mutex: the step by which the owner took the mutex, and each jump of the
-///   owner since then over an `unlock` of it
+///   owner since then over an `unlock` of it or a `wait` with it
 /// - where it waits for a condition: each statement that names the condition, and each jump of
 ///   another thread over a `signal` or a `broadcast` of it
 /// - where it waits for a semaphore: each statement that names the semaphore, and each jump over a
@@ -42,7 +43,7 @@ pub fn is_direct_cause(program: &Program, end: &Event, event: &Event) -> bool
 }
 
 // Whether an event is a direct cause of a wait for a mutex that `holder` owns: the step by which
-// the owner took the mutex, or a jump of the owner since then over an `unlock` of it. Without an
+// the owner took the mutex, or a jump of the owner since then over what gives it back. Without an
 // owner there is none. `reason` is the reason of the wait.
 fn is_direct_cause_by_owner(
     program: &Program,
@@ -116,19 +117,5 @@ fn any_could_end_wait(reason: Reason, statements: &[Instruction]) -> bool
 {
     statements
         .iter()
-        .any(|statement| could_end_wait(reason, statement))
-}
-
-// Whether a statement could end a wait for this reason: for a mutex an `unlock`, for a condition a
-// `signal` or `broadcast`, for a semaphore a `release` of it. A `wait` doesn't count as an
-// `unlock`.
-fn could_end_wait(reason: Reason, statement: &Instruction) -> bool
-    ensures { result ≡ could_end reason statement.now }
-{
-    match (reason, statement) {
-        (Reason::Lock(m) | Reason::Retake(m), Instruction::Unlock(n)) => *n == m,
-        (Reason::Signal(c), _) => Use::Signals.is_made(c, statement),
-        (Reason::Acquire(k), _) => Use::Releases.is_made(k, statement),
-        _ => false,
-    }
+        .any(|statement| reason.could_be_ended_by(statement))
 }

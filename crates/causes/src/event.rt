@@ -2,7 +2,7 @@
 
 ghost use Rattle.std.specs.Prelude.{◌≡◌};
 ghost use Rattle.lint.specs.Uses.{local_set, variable_read};
-ghost use Rattle.causes.specs.Events.{is_end, is_blocked, is_step, jump_by, stop_by, value_by, written_by};
+ghost use Rattle.causes.specs.Events.{is_end, is_blocked, is_step, jump_by, jumps_over, stop_by, value_by, written_by};
 
 use explain::{Holder, Reason};
 use guest_code::program::Instruction;
@@ -124,5 +124,12 @@ impl Event {
             (Instruction::Skip(n), _) => n,
             _ => 0,
         }
+    }
+    /// Whether the event is a jump over this instruction of its thread; false where it is no jump,
+    /// or a test that holds.
+    pub fn jumps_over(&self, instruction: usize) -> bool
+        ensures { result ≡ jumps_over self.now instruction }
+    {
+        self.instruction < instruction && instruction - self.instruction <= self.jump_length()
     }
 }

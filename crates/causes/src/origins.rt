@@ -1,7 +1,8 @@
-//! Where the value of a local or a variable comes from, and who took a mutex.
+//! Where the value of a local or a variable comes from, who took a mutex, and how an instruction was
+//! jumped over.
 
-ghost use Rattle.std.specs.Prelude.{◌≡◌, ℕ, MatchOption};
-ghost use Rattle.causes.specs.Events.{sets_local, writes};
+ghost use Rattle.std.specs.Prelude.{◌≡◌, ℕ, MatchOption, length};
+ghost use Rattle.causes.specs.Events.{is_jump_over, sets_local, writes};
 ghost use Rattle.causes.specs.Causes.{NoneOf};
 ghost use Rattle.causes.specs.Origins.{IsLastBefore, IsTakenAt, gives_by, has_role, moves, takes_by};
 
@@ -29,6 +30,28 @@ impl Causes {
         last_before(self.events(), at, EventRole::Writer(variable))
     }
 
+    /// The place of the last event before place `at` by which a thread took a mutex or gave it back;
+    /// `None` where nobody had taken it there.
+    pub fn last_owner_change(&self, at: usize, mutex: usize) -> Option<usize>
+        ensures { MatchOption result (NoneOf self.now.events.items (moves mutex) 0 at)
+            (IsLastBefore self.now.events.items (moves mutex) at) }
+    {
+        last_before(self.events(), at, EventRole::OwnerChanger(mutex))
+    }
+
+    /// The place of the event by which a thread jumped over an instruction of its code; `None` where
+    /// it didn't.
+    pub fn jump_over(&self, thread: u8, instruction: usize) -> Option<usize>
+        ensures { MatchOption result
+            (NoneOf self.now.events.items (is_jump_over thread instruction) 0
+            (length self.now.events.items))
+            (IsLastBefore self.now.events.items (is_jump_over thread instruction)
+            (length self.now.events.items)) }
+    {
+        let events = self.events();
+        last_before(events, events.len(), EventRole::Jumper(thread, instruction))
+    }
+
     /// The place of the event since which a mutex is owned, right before place `at`: the event by
     /// which its owner took it. `None` where nobody owns the mutex there.
     pub fn owned_since(&self, at: usize, mutex: usize) -> Option<usize>
@@ -36,7 +59,7 @@ impl Causes {
             ((k : ℕ) → ¬ IsTakenAt self.now.events.items mutex at k)
             (IsTakenAt self.now.events.items mutex at) }
     {
-        let last = last_before(self.events(), at, EventRole::OwnerChanger(mutex))?;
+        let last = self.last_owner_change(at, mutex)?;
         if takes_mutex(self.events()[last].deed, mutex) {
             Some(last)
         } else {
@@ -45,19 +68,23 @@ impl Causes {
     }
 }
 
-/// What an event does to a local, a variable or a mutex, to search the events of a run for it.
+/// What an event does to a local, a variable, an instruction or a mutex, to search the events of a
+/// run for it.
 #[derive(Clone, Copy)]
 pub enum EventRole {
     /// The event sets this local of this thread.
     Setter(u8, usize),
     /// The event writes this variable.
     Writer(usize),
+    /// The event is a jump of this thread over its instruction of this number.
+    Jumper(u8, usize),
     /// The event takes this mutex or releases it.
     OwnerChanger(usize),
 }
 
 impl EventRole {
-    // Whether an event does this: sets the local, writes the variable, takes or releases the mutex.
+    // Whether an event does this: sets the local, writes the variable, jumps over the instruction,
+    // takes or releases the mutex.
     fn matches(self, event: &Event) -> bool
         ensures { result ≡ has_role self event.now }
     {
@@ -66,6 +93,9 @@ impl EventRole {
                 event.thread == thread && is_some_of(local, event.local_set())
             }
             EventRole::Writer(variable) => is_some_of(variable, event.variable_written()),
+            EventRole::Jumper(thread, instruction) => {
+                event.thread == thread && event.jumps_over(instruction)
+            }
             EventRole::OwnerChanger(mutex) => takes_mutex(event.deed, mutex)
                 || releases_mutex(event.deed, mutex),
         }

@@ -1,5 +1,7 @@
 -- Why a thread can't take a step: the definition of an enabled thread turned round.
-use Rattle.std.specs.Prelude.{◌≡◌, ◌≢◌, ◌⊎◌, ℕ, true, Option, Some, None}
+use Rattle.std.specs.Prelude.{◌≡◌, ◌≢◌, ◌⊎◌, ℕ, nat_eq, Bool, true, false, Option, Some, None}
+use Rattle.guest_code.specs.declared.program.Instruction.{Instruction}
+use Rattle.guest_code.specs.declared.program.Instruction.TheVariants as instructions
 use Rattle.guest_code.specs.Program.{Program}
 use Rattle.semantics.specs.declared.state.Status.TheVariants.{Waiting}
 use Rattle.semantics.specs.declared.state.Action.TheVariants.{OnMutex, OnSemaphore}
@@ -25,6 +27,29 @@ waited_for (Lock m) = Mutex m
 waited_for (Retake m) = Mutex m
 waited_for (Acquire k) = Semaphore k
 waited_for (Signal c) = Condition c
+
+-- an instruction gives mutex m back
+abbrev pub gives_back : ℕ → Instruction → Bool
+gives_back m (instructions.Unlock n) = nat_eq n m
+gives_back m (instructions.Wait c n) = nat_eq n m
+gives_back m i = false
+
+-- it wakes threads that wait for condition c, or raises the count of semaphore k
+abbrev pub wakes : ℕ → Instruction → Bool
+wakes c (instructions.Signal d) = nat_eq d c
+wakes c (instructions.Broadcast d) = nat_eq d c
+wakes c i = false
+
+abbrev pub raises : ℕ → Instruction → Bool
+raises k (instructions.Release l) = nat_eq l k
+raises k i = false
+
+-- it could end a wait for this reason
+abbrev pub could_end : Reason → Instruction → Bool
+could_end (Lock m) i = gives_back m i
+could_end (Retake m) i = gives_back m i
+could_end (Signal c) i = wakes c i
+could_end (Acquire k) i = raises k i
 
 -- thread t can't take a step for this reason: it is to lock a mutex, or to take one again, that a
 -- thread owns, or to acquire a semaphore whose count is 0, or it waits for a condition

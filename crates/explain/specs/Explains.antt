@@ -69,5 +69,6 @@ pub record Explains (p : Program) (w : List ℕ) (told : Explanation) : Type 0 w
   pub opening : TellsOpening p told.starts.items
   pub threads : TellsThreads p (state_before p w (length told.steps.items)) told.thread_states.items
   pub holders : TellsHolders p w (length told.steps.items) told.holders.items
+  pub variables : told.variables.items ≡ (state_before p w (length told.steps.items)).vars
   pub preemptions : told.preemptions ≡ preemptions p (take (length told.steps.items) w)
   pub kind : told.kind ≡ kind_of p (state_before p w (length told.steps.items))

@@ -46,6 +46,7 @@ pub struct Explanation {
     starts: Vec<Start>,
     thread_states: Vec<ThreadState>,
     holders: Vec<Option<Holder>>,
+    variables: Vec<i64>,
     preemptions: usize,
     kind: Option<Kind>,
     refused: Option<u8>,
@@ -63,12 +64,14 @@ impl Explanation {
         let kind = state.kind(program);
         let preemptions = run.execution.preemptions();
         let starts = starts_of(alloc, program)?;
+        let variables = state.variables().to_vec(alloc)?;
         Ok(Explanation {
             schedule: schedule.to_vec(alloc)?,
             steps: run.steps,
             starts,
             thread_states,
             holders: run.holders,
+            variables,
             preemptions,
             kind,
             refused: run.refused,
@@ -110,6 +113,13 @@ impl Explanation {
         ensures { result.now ≡ self.now.holders.items }
     {
         self.holders.as_slice()
+    }
+
+    /// The value of each variable, by number, after the last step that was taken.
+    pub fn variables(&self) -> &[i64]
+        ensures { result.now ≡ self.now.variables.items }
+    {
+        self.variables.as_slice()
     }
 
     /// How many preemptions the schedule has, in the steps that were taken.

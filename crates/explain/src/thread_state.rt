@@ -3,11 +3,11 @@
 ghost use Rattle.std.specs.Prelude.{◌≡◌, ◌<◌, length, MatchOption, Some};
 ghost use Rattle.semantics.specs.Reachable.{IsOf};
 ghost use Rattle.semantics.specs.Ends.{is_stopped};
-ghost use Rattle.explain.specs.Blocked.{IsBlockedBy, IsUnblocked, Stands, mutex_of, waited_for};
+ghost use Rattle.explain.specs.Blocked.{IsBlockedBy, IsUnblocked, Stands, could_end, gives_back, mutex_of, waited_for};
 
 use crate::object::Object;
 use guest_code::limits::LOCALS;
-use guest_code::program::Program;
+use guest_code::program::{Instruction, Program};
 use semantics::state::{Action, MutexAction, SemaphoreAction, State, Status};
 
 /// What a blocked thread waits for.
@@ -45,6 +45,35 @@ impl Reason {
             Reason::Acquire(k) => Object::Semaphore(k),
             Reason::Signal(c) => Object::Condition(c),
         }
+    }
+
+    /// Whether an instruction could end a wait for this reason: for a mutex an `unlock` of it or a
+    /// `wait` with it, for a condition a `signal` or a `broadcast`, for a semaphore a `release`.
+    pub fn could_be_ended_by(self, instruction: &Instruction) -> bool
+        ensures { result ≡ could_end self instruction.now }
+    {
+        match self {
+            Reason::Lock(m) | Reason::Retake(m) => gives_back(m, instruction),
+            Reason::Signal(c) => match instruction {
+                Instruction::Signal(it) | Instruction::Broadcast(it) => *it == c,
+                _ => false,
+            },
+            Reason::Acquire(k) => match instruction {
+                Instruction::Release(it) => *it == k,
+                _ => false,
+            },
+        }
+    }
+}
+
+// Whether an instruction gives a mutex back: an `unlock` of it, or a `wait` with it.
+fn gives_back(mutex: usize, instruction: &Instruction) -> bool
+    ensures { result ≡ gives_back mutex instruction.now }
+{
+    match instruction {
+        Instruction::Unlock(it) => *it == mutex,
+        Instruction::Wait { mutex: it, .. } => *it == mutex,
+        _ => false,
     }
 }
 

@@ -53,6 +53,7 @@ abbrev pub after : Watch → Instruction → Bool → Option Bool
 after watches.Nothing i b = Some b
 after (watches.Owns m) i b = owned_after m i b
 after (watches.Untested r) i b = unseen_after r i b
+after (watches.IsSet r) i b = Some (b || sets r i)
 
 -- Some path through a code leads from instruction `k` to another one. Where what is watched is so at
 -- its beginning or not, as `b` says, it is so at its end or not, as the last one says.

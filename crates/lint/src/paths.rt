@@ -10,7 +10,7 @@ use guest_code::program::Instruction;
 use std::alloc::{AllocError, Global};
 
 /// A property that is watched along a path through the code of a thread.
-#[derive(Clone, Copy, Debug, PartialEq, Eq)]
+#[derive(Clone, Copy)]
 pub enum Watch {
     /// No property: only where the path leads.
     Nothing,
@@ -19,11 +19,13 @@ pub enum Watch {
     /// Whether the local of this number has got a value on the path. A path ends where the thread
     /// tests such a value, or does something that other threads may see.
     Untested(usize),
+    /// Whether the local of this number has got a value on the path.
+    IsSet(usize),
 }
 
 /// Whether some path leads to an instruction so that the watched property holds there, and whether
 /// some path leads there so that it doesn't.
-#[derive(Clone, Copy, Debug, PartialEq, Eq)]
+#[derive(Clone, Copy)]
 pub struct Mark {
     /// Some path leads to the instruction, and the watched property holds after the path.
     pub may_hold: bool,
@@ -103,6 +105,7 @@ fn holds_after(watch: Watch, instruction: &Instruction, holds: bool) -> Option<b
         Watch::Nothing => Some(holds),
         Watch::Owns(mutex) => owned_after(mutex, instruction, holds),
         Watch::Untested(local) => is_set_after(local, instruction, holds),
+        Watch::IsSet(local) => Some(holds || sets(local, instruction)),
     }
 }
 

@@ -43,6 +43,14 @@ pub struct SeenStep<'a> {
     pub code: &'a [Instruction],
 }
 
+// Keeps the threads of these steps, if none are kept yet. Fails where memory runs out.
+fn keep_first(alloc: Global, kept: &mut Option<Vec<u8>>, path: &[u8]) -> Result<(), AllocError> {
+    if kept.is_none() {
+        *kept = Some(Vec::from_slice(alloc, path)?);
+    }
+    Ok(())
+}
+
 impl Seen {
     /// What was seen of a program before any schedule is explored: nothing. `spins` is how many of
     /// its loops a `leave` may end. Fails where memory runs out.
@@ -96,12 +104,10 @@ impl Seen {
     /// kept for this instruction yet. Fails where memory runs out.
     pub fn note_signal_to_many(&mut self, step: SeenStep<'_>, at: usize) -> Result<(), AllocError> {
         let alloc = self.alloc;
-        if let Some(instruction) = self.instruction_mut(step.thread, at) {
-            if instruction.signal_to_many.is_none() {
-                instruction.signal_to_many = Some(Vec::from_slice(alloc, step.path)?);
-            }
+        match self.instruction_mut(step.thread, at) {
+            Some(instruction) => keep_first(alloc, &mut instruction.signal_to_many, step.path),
+            None => Ok(()),
         }
-        Ok(())
     }
 
     // Notes each loop whose turns run out, without a `leave`, where the thread in `step` goes from
@@ -114,12 +120,10 @@ impl Seen {
         to: usize,
     ) -> Result<(), AllocError> {
         for (i, spin) in step.spins.iter().enumerate() {
-            if spin.runs_out(step.thread, from, to) {
-                if let Some(ran_out) = self.ran_out.get_mut(i) {
-                    if ran_out.is_none() {
-                        *ran_out = Some(Vec::from_slice(self.alloc, step.path)?);
-                    }
-                }
+            if spin.runs_out(step.thread, from, to)
+                && let Some(ran_out) = self.ran_out.get_mut(i)
+            {
+                keep_first(self.alloc, ran_out, step.path)?;
             }
         }
         Ok(())

@@ -8,7 +8,7 @@ ghost use Rattle.lint.specs.Uses.{value_reads, expression_reads, reads, is, loca
 use guest_code::program::{Expression, Instruction, Value};
 
 /// A way in which an instruction uses a local or an object, which is given by its number.
-#[derive(Clone, Copy, Debug, PartialEq, Eq)]
+#[derive(Clone, Copy)]
 pub enum Use {
     /// A local is read.
     Reads,

@@ -3,7 +3,8 @@
 ghost use Rattle.std.specs.Prelude.{◌≡◌, ◌<◌, ◌↔◌, IsTrue, IfOk, length, ◌^◌, ◌≤◌};
 ghost use Rattle.guest_code.specs.Program.{code_of, JumpsWithin};
 ghost use Rattle.lint.specs.Paths.{IsReached};
-ghost use Rattle.lint.specs.Warnings.{UsesIn, UsesAnywhere, IsSo, MayKeep, MayLack, LocksAgain, IsUnseen, WaitNotLookedAtAgain, WaitsElsewhere, subject_of, count_of};
+ghost use Rattle.lint.specs.Warnings.{UsesIn, UsesAnywhere, IsSo, MayKeep, MayLack, LocksAgain};
+ghost use Rattle.lint.specs.Warnings.{IsUnseen, WaitNotLookedAtAgain, WaitsElsewhere, subject_of, count_of};
 
 use crate::paths::{Watch, path_marks, reaches_effect_or_end};
 use crate::uses::Use;
@@ -13,7 +14,7 @@ use guest_code::program::{Instruction, Program};
 use std::alloc::{AllocError, Global};
 
 /// What the warnings of a kind are about. The number of a warning says which of them is meant.
-#[derive(Clone, Copy, Debug, PartialEq, Eq)]
+#[derive(Clone, Copy)]
 pub enum Subject {
     /// The locals of the thread of this number.
     Local(u8),
@@ -32,7 +33,7 @@ const CONDITION: Subject = Subject::Object(NameKind::Condition);
 const SEMAPHORE: Subject = Subject::Object(NameKind::Semaphore);
 
 /// What is warned of, with the number of the thread where it is of one thread.
-#[derive(Clone, Copy, Debug, PartialEq, Eq)]
+#[derive(Clone, Copy, PartialEq, Eq)]
 pub enum WarningKind {
     /// A local is read, and no statement of its thread gives it a value.
     NeverSet(u8),
@@ -73,7 +74,7 @@ pub enum WarningKind {
 }
 
 /// A warning: its kind, and the number of the local, the object or the instruction.
-#[derive(Clone, Copy, Debug, PartialEq, Eq)]
+#[derive(Clone, Copy)]
 pub struct Warning {
     pub kind: WarningKind,
     pub number: usize,

@@ -9,7 +9,7 @@ use Rattle.replay.proofs.LinesOfSteps.{passed_more, passed_same}
 use Rattle.waits.specs.declared.ending.Blocked.{Blocked}
 use Rattle.waits.specs.declared.ending.Statement.{Statement}
 use Rattle.waits.specs.declared.fate.Fate.{Fate}
-use Rattle.waits.specs.declared.fate.Fate.TheVariants.{PassedBy}
+use Rattle.waits.specs.declared.fate.Fate.TheVariants.{OutOfReach}
 use Rattle.waits.specs.Endings.{could_end}
 
 abbrev pub statement : ℕ → ℕ → Fate → Statement
@@ -17,7 +17,7 @@ statement u i fate = record { thread = u; instruction = i; fate = fate }
 
 -- instruction i of thread u, with what came of it
 abbrev pub statement_at : ℕ → List Fate → ℕ → Statement
-statement_at u fates i = statement u i (get_or fates i PassedBy)
+statement_at u fates i = statement u i (get_or fates i OutOfReach)
 
 -- those of the first n instructions that could end the wait
 abbrev pub listed : Blocked → ℕ → List Instruction → List Fate → ℕ → List Statement
@@ -49,7 +49,7 @@ pub put_next : (b : Blocked) (u : ℕ) (code : List Instruction) (fates : List F
     → mid ≡ old ++ listed b u code fates n → new ≡ mid ++ statement u n (get_or fates n e) ∷ []
     → new ≡ old ++ listed b u code fates (n + 1)
 put_next b u code fates n old mid new d e h l could before pushed =
-    let fate = get_or_default fates n e PassedBy (omega (arith, h, l)) in
+    let fate = get_or_default fates n e OutOfReach (omega (arith, h, l)) in
     let is = ap (could_end b u n) (get_or_default code n (Skip 0) d h) ∙ could in
     pushed ∙ (ap (λ (f : Fate). mid ++ statement u n f ∷ []) fate
     ∙ (ap (λ (l : List Statement). l ++ statement_at u fates n ∷ []) before

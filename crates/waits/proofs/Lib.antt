@@ -1,8 +1,12 @@
 pub mod Closures
 pub mod TakenSteps
 pub mod CirclesTold
+pub mod Helped
+pub mod LooksOnce
 pub mod FoundAhead
 pub mod EndersListed
-pub mod PathsAhead
+pub mod WaysAhead
+pub mod SettledWays
+pub mod OpenTests
 pub mod Sets
 pub mod WaitsTold

@@ -8,6 +8,7 @@ use Rattle.explain.specs.declared.explanation.Explanation.{Explanation}
 use Rattle.waits.specs.declared.ending.Blocked.{Blocked}
 use Rattle.waits.specs.declared.fate.Fate.{Fate}
 use Rattle.waits.specs.declared.wait.Wait.{Wait}
+use Rattle.waits.specs.Looks.{IsLookOf}
 use Rattle.waits.specs.Endings.{blocked_of, statements_to}
 use Rattle.waits.specs.Graph.{WaitsFor, Leads, IsIn, row}
 use Rattle.waits.specs.Waiting.{TellsWait, IsLastStep}
@@ -18,17 +19,18 @@ pub wait_told : (p : Program) (told : Explanation) (fates : List (List Fate)) (w
     (b : Blocked) (edges leads : List Mask) → blocked_of told w.thread ≡ Some b
     → w.reason ≡ b.reason
     → IsLastStep told.steps.items w.thread (length told.steps.items) w.since
-    → w.statements.items ≡ statements_to p fates b (length p.threads)
+    → IsLookOf p told b w.look → w.statements.items ≡ statements_to p fates b (length p.threads)
     → w.on ≡ row edges w.thread
     → ((u : ℕ) → IsTrue (has w.circle u) ↔ (IsIn leads w.thread u × IsIn leads u w.thread))
     → ((t u : ℕ) → IsIn edges t u ↔ WaitsFor p told t u)
     → ((t u : ℕ) → IsIn leads t u ↔ Leads (IsIn edges) t u)
     → TellsWait p told fates w
-wait_told p told fates w b edges leads is reason since statements on circle same closed = record {
+wait_told p told fates w b edges leads is reason since look statements on circle same closed = record {
   blocked = b;
   is = is;
   reason = reason;
   since = since;
+  look = look;
   statements = statements;
   on = λ u. let P : Mask → Type 0 = λ set. IsTrue (has set u) ↔ WaitsFor p told w.thread u in
       subst P (sym on) (same w.thread u);

@@ -1,8 +1,9 @@
 -- Which statements could end the wait of a blocked thread.
-use Rattle.std.specs.Prelude.{ℕ, zero, suc, ◌<◌, Bool, false, ◌&&◌, ◌||◌, not, nat_eq, nat_lt, List, [], ◌++◌, length, filter, map, Option, Some, None, slice_get, slice_index_or, IsTrue}
+use Rattle.std.specs.Prelude.{◌≡◌, ℕ, zero, suc, ◌<◌, ◌⊎◌, Bool, true, false, ◌&&◌, ◌||◌, not, nat_eq, nat_lt, List, [], ◌++◌, length, filter, map, Option, Some, None, slice_get, slice_index_or, IsTrue}
 use Rattle.std.specs.Option.{option_map}
+use Rattle.std.specs.List.{list_any}
 use Rattle.guest_code.specs.declared.program.Instruction.{Instruction}
-use Rattle.guest_code.specs.declared.program.Instruction.TheVariants.{Unlock, Wait, Skip}
+use Rattle.guest_code.specs.declared.program.Instruction.TheVariants.{Skip}
 use Rattle.guest_code.specs.Program.{Program, code_of}
 use Rattle.semantics.specs.Machine.{owns}
 use Rattle.semantics.specs.Work.{up_from}
@@ -10,14 +11,15 @@ use Rattle.explain.specs.declared.explanation.Explanation.{Explanation}
 use Rattle.explain.specs.declared.explanation.Holder.{Holder}
 use Rattle.explain.specs.declared.thread_state.Reason.{Reason}
 use Rattle.explain.specs.declared.thread_state.Reason.TheVariants.{Lock, Retake, Acquire, Signal}
-use Rattle.explain.specs.Blocked.{mutex_of, reason_of}
+use Rattle.explain.specs.Blocked.{mutex_of, reason_of, could_end as could_end_by}
 use Rattle.lint.specs.declared.uses.Use.TheVariants as uses
 use Rattle.lint.specs.Uses.{does}
 use Rattle.waits.specs.declared.ending.Blocked.{Blocked}
 use Rattle.waits.specs.declared.ending.Statement.{Statement}
 use Rattle.waits.specs.declared.fate.Fate.{Fate}
-use Rattle.waits.specs.declared.fate.Fate.TheVariants.{Ahead, PassedBy}
-use Rattle.waits.specs.Fates.{place_of, HasFate}
+use Rattle.waits.specs.declared.fate.Fate.TheVariants.{Ahead, OutOfReach}
+use Rattle.waits.specs.declared.look.Look.{Look}
+use Rattle.waits.specs.Fates.{place_of, HasFate, is_to_come}
 
 -- the owner of a mutex at the end, if it has one
 abbrev pub owner_told : Explanation → Option ℕ → Option ℕ
@@ -39,26 +41,27 @@ blocked_by told t (Some reason) = Some (record {
 abbrev pub blocked_of : Explanation → ℕ → Option Blocked
 blocked_of told t = blocked_by told t (reason_of (slice_get told.thread_states.items t))
 
--- an instruction gives mutex m back
-abbrev pub gives_back : ℕ → Instruction → Bool
-gives_back m (Unlock n) = nat_eq n m
-gives_back m (Wait c n) = nat_eq n m
-gives_back m _ = false
-
 -- instruction i of thread u is another thread's than the blocked one's, or lies before its wait
 abbrev pub is_before : Blocked → ℕ → ℕ → Bool
 is_before b u i = not (nat_eq u b.thread) || nat_lt i b.instruction
 
--- this instruction, number i of thread u, could end the wait for this reason: the owner of the
--- mutex gives it back by it, or it wakes threads of the condition, or raises the semaphore's count
-abbrev pub could_end_by : Reason → Blocked → ℕ → ℕ → Instruction → Bool
-could_end_by (Lock m) b u i ins = owns u b.owner && gives_back m ins
-could_end_by (Retake m) b u i ins = owns u b.owner && gives_back m ins
-could_end_by (Signal c) b u i ins = is_before b u i && does uses.Signals c ins
-could_end_by (Acquire k) b u i ins = is_before b u i && does uses.Releases k ins
+-- instruction i of thread u may end the wait by where it is: for a mutex it is the owner's
+abbrev pub is_placed_by : Reason → Blocked → ℕ → ℕ → Bool
+is_placed_by (Lock m) b u i = owns u b.owner
+is_placed_by (Retake m) b u i = owns u b.owner
+is_placed_by (Signal c) b u i = is_before b u i
+is_placed_by (Acquire k) b u i = is_before b u i
 
+abbrev pub is_placed : Blocked → ℕ → ℕ → Bool
+is_placed b u i = is_placed_by b.reason b u i
+
+-- this instruction, number i of thread u, could end the wait
 abbrev pub could_end : Blocked → ℕ → ℕ → Instruction → Bool
-could_end b u i ins = could_end_by b.reason b u i ins
+could_end b u i ins = is_placed b u i && could_end_by b.reason ins
+
+-- an instruction writes one of these variables
+abbrev pub writes_one : List ℕ → Instruction → Bool
+writes_one xs i = list_any (λ x. does uses.Stores x i) xs
 
 -- the numbers of the instructions of thread u, whose code is this, that could end the wait
 abbrev pub enders : Blocked → ℕ → List Instruction → List ℕ
@@ -69,7 +72,7 @@ enders b u code =
 -- came of it
 abbrev pub statements_in : Blocked → ℕ → List Instruction → List Fate → List Statement
 statements_in b u code fates =
-    map (λ i. record { thread = u; instruction = i; fate = slice_index_or fates i PassedBy })
+    map (λ i. record { thread = u; instruction = i; fate = slice_index_or fates i OutOfReach })
     (enders b u code)
 
 -- those of the first n threads, where these fates are those of each thread's instructions
@@ -78,9 +81,23 @@ statements_to p fates b zero = []
 statements_to p fates b (suc n) = statements_to p fates b n
     ++ statements_in b n (code_of p n) (slice_index_or fates n [])
 
--- thread u has a statement ahead that could end the wait
-pub record HasAhead (p : Program) (told : Explanation) (b : Blocked) (u : ℕ) : Type 0 where
+-- before instruction i thread u has yet to come, or may come, to one that writes a variable at which
+-- the blocked thread would look
+pub record ChangesBefore (p : Program) (told : Explanation) (look : Look) (u i : ℕ) : Type 0 where
+  pub at : ℕ
+  pub before : at < i
+  pub within : at < length (code_of p u)
+  pub fate : Fate
+  pub has : HasFate p told u at fate
+  pub comes : is_to_come fate ≡ true
+  pub writes : IsTrue (writes_one look.variables.items (slice_index_or (code_of p u) at (Skip 0)))
+
+-- thread u has a statement ahead that could end the wait, and that helps the blocked thread, which
+-- would look so: it goes on as things are, or u may change what it looks at
+pub record HasAhead (p : Program) (told : Explanation) (b : Blocked) (look : Look) (u : ℕ) :
+    Type 0 where
   pub at : ℕ
   pub within : at < length (code_of p u)
   pub could : IsTrue (could_end b u at (slice_index_or (code_of p u) at (Skip 0)))
   pub ahead : HasFate p told u at Ahead
+  pub helps : (look.sleeps ≡ false) ⊎ ChangesBefore p told look u at

@@ -5,16 +5,20 @@ use Rattle.semantics.specs.declared.mask.Mask.{Mask}
 use Rattle.semantics.specs.Mask.{has, no_threads}
 use Rattle.explain.specs.declared.explanation.Explanation.{Explanation}
 use Rattle.waits.specs.declared.ending.Blocked.{Blocked}
+use Rattle.waits.specs.declared.look.Look.{Look}
+use Rattle.waits.specs.Looks.{IsLookOf}
 use Rattle.waits.specs.Endings.{HasAhead, blocked_of}
 
 -- thread t is blocked, and thread u owns the mutex that it waits for, or has a statement ahead that
--- could end its wait
+-- could end its wait and helps it
 pub record WaitsFor (p : Program) (told : Explanation) (t u : ℕ) : Type 0 where
   pub thread : t < length p.threads
   pub other : u < length p.threads
   pub blocked : Blocked
   pub is : blocked_of told t ≡ Some blocked
-  pub ends : (blocked.owner ≡ Some u) ⊎ HasAhead p told blocked u
+  pub look : Look
+  pub seen : IsLookOf p told blocked look
+  pub ends : (blocked.owner ≡ Some u) ⊎ HasAhead p told blocked look u
 
 -- one edge after the other leads from t to u
 pub data Leads (E : ℕ → ℕ → Type 0) : ℕ → ℕ → Type 0 where

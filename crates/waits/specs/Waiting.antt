@@ -11,6 +11,7 @@ use Rattle.waits.specs.declared.fate.Fate.{Fate}
 use Rattle.waits.specs.declared.wait.Wait.{Wait}
 use Rattle.waits.specs.declared.wait.Waits.{Waits}
 use Rattle.waits.specs.Fates.{Fates}
+use Rattle.waits.specs.Looks.{IsLookOf}
 use Rattle.waits.specs.Endings.{blocked_of, statements_to}
 use Rattle.waits.specs.Graph.{WaitsFor, Leads, AreInCircle}
 
@@ -29,14 +30,16 @@ abbrev pub AllFates : Program → Explanation → List (List Fate) → Type 0
 AllFates p told fates = (t : ℕ) → t < length p.threads →
     Fates p told t (slice_index_or fates t [])
 
--- this is told of a thread that waits: for what, since which step, each statement that could end
--- its wait, for whom it waits, and with whom it is in a circle
+-- this is told of a thread that waits: for what, since which step, at what it would look if it were
+-- woken now, each statement that could end its wait, for whom it waits, and with whom it is in a
+-- circle
 pub record TellsWait (p : Program) (told : Explanation) (fates : List (List Fate)) (wait : Wait) :
     Type 0 where
   pub blocked : Blocked
   pub is : blocked_of told wait.thread ≡ Some blocked
   pub reason : wait.reason ≡ blocked.reason
   pub since : IsLastStep told.steps.items wait.thread (length told.steps.items) wait.since
+  pub look : IsLookOf p told blocked wait.look
   pub statements : wait.statements.items ≡ statements_to p fates blocked (length p.threads)
   pub on : (u : ℕ) → IsTrue (has wait.on u) ↔ WaitsFor p told wait.thread u
   pub circle : (u : ℕ) → IsTrue (has wait.circle u)

@@ -1,4 +1,5 @@
 -- What the proofs put between the code and the definitions. Only contracts of private functions
 -- cite it, so nobody has to believe it.
+pub mod Settling
 pub mod Taking
 pub mod Rows

@@ -2,13 +2,14 @@
 
 ghost use Rattle.std.specs.Prelude.{◌≡◌, ◌↔◌, ◌++◌, IsTrue, IfOk, OnOk, length};
 ghost use Rattle.explain.specs.Blocked.{mutex_of};
-ghost use Rattle.waits.specs.Endings.{blocked_of, owner_told, could_end, is_before, gives_back, statements_in, statements_to};
+ghost use Rattle.waits.specs.Endings.{blocked_of, owner_told, could_end, is_before, is_placed, statements_in, statements_to};
+ghost use Rattle.waits.specs.Looks.{after_wait};
 ghost use Rattle.waits.specs.inner.Rows.{lists, Fits, FindsAhead, FindsEdge};
 
 use crate::fate::{Fate, end_pc};
+use crate::look::Look;
 use explain::{Explanation, Reason};
 use guest_code::program::{Instruction, Program};
-use lint::uses::Use;
 use semantics::owns;
 use std::alloc::{AllocError, Global};
 
@@ -52,23 +53,36 @@ impl Blocked {
     }
 
     /// Whether the instruction of number `at` of thread `other` could end the wait, or could have
-    /// ended it in another schedule. For a mutex that is an `unlock` or a `wait` of its owner, for
-    /// a condition a `signal` or a `broadcast`, for a semaphore a `release`. In the waiting thread
-    /// itself, a `signal`, `broadcast` or `release` counts only before the instruction at which the
-    /// thread waits: the thread can't come to a later one before the wait ends.
+    /// ended it in another schedule: it could end a wait for this reason, and it is, for a mutex,
+    /// its owner's. In the waiting thread itself, a `signal`, `broadcast` or `release` counts only
+    /// before the instruction at which the thread waits: the thread can't come to a later one before
+    /// the wait ends.
     pub fn could_be_unblocked_by(self, other: u8, at: usize, instruction: &Instruction) -> bool
         ensures { result ≡ could_end self other at instruction.now }
     {
+        self.may_be_ended_at(other, at) & self.reason.could_be_ended_by(instruction)
+    }
+
+    /// The number of the instruction at which the thread goes on once its wait ends, where this is
+    /// its code.
+    pub fn next_instruction(self, code: &[Instruction]) -> usize
+        ensures { result ≡ after_wait code.now self }
+    {
+        if self.instruction < code.len() {
+            self.instruction + 1
+        } else {
+            code.len()
+        }
+    }
+
+    // Whether the instruction of number `at` of thread `other` is one that may end the wait by its
+    // thread and place.
+    fn may_be_ended_at(self, other: u8, at: usize) -> bool
+        ensures { result ≡ is_placed self other at }
+    {
         match self.reason {
-            Reason::Lock(m) | Reason::Retake(m) => {
-                owns(other, self.owner) && releases_mutex(m, instruction)
-            }
-            Reason::Signal(c) => {
-                self.may_precede_wait_end(other, at) && Use::Signals.is_made(c, instruction)
-            }
-            Reason::Acquire(k) => {
-                self.may_precede_wait_end(other, at) && Use::Releases.is_made(k, instruction)
-            }
+            Reason::Lock(_) | Reason::Retake(_) => owns(other, self.owner),
+            Reason::Signal(_) | Reason::Acquire(_) => self.may_precede_wait_end(other, at),
         }
     }
 
@@ -88,17 +102,6 @@ fn owner_of(told: &Explanation, reason: Reason) -> Option<u8>
 {
     let holder = told.holder(reason.mutex()?)?;
     Some(holder.thread)
-}
-
-// Whether an instruction releases the mutex `wanted`: an `unlock`, or a `wait` with it.
-fn releases_mutex(wanted: usize, instruction: &Instruction) -> bool
-    ensures { result ≡ gives_back wanted instruction.now }
-{
-    match instruction {
-        Instruction::Unlock(mutex) => *mutex == wanted,
-        Instruction::Wait { mutex, .. } => *mutex == wanted,
-        _ => false,
-    }
 }
 
 // Adds to `list`, in the order of the code, the statements of thread `other` that could end the
@@ -147,26 +150,43 @@ pub fn unblocking_statements(
     Ok(list)
 }
 
-// Whether thread `other` may still come to a statement that could end the wait of a blocked thread,
-// and that it hasn't carried out. `code` and `fates` are those of `other`.
-fn may_still_end_wait(code: &[Instruction], fates: &[Fate], blocked: Blocked, other: u8) -> bool
+// Whether thread `other`, if it goes on, comes to a statement that could end the wait of a blocked
+// thread, that it hasn't carried out, and that helps the blocked one: either that goes on as things
+// are, which `look` says, or `other` may change what that looks at before it comes to the statement.
+// `code` and `fates` are those of `other`.
+fn comes_to_help(
+    code: &[Instruction],
+    fates: &[Fate],
+    blocked: Blocked,
+    look: &Look,
+    other: u8,
+) -> bool
     requires { length fates.now ≡ length code.now }
-    ensures { IsTrue result ↔ FindsAhead code.now fates.now blocked other }
+    ensures { IsTrue result ↔ FindsAhead code.now fates.now blocked look.now other }
 {
+    let mut helps = !look.sleeps;
     for (at, instruction) in code.iter().enumerate() {
-        if blocked.could_be_unblocked_by(other, at, instruction) && fates[at].is_ahead() {
+        let ends = blocked.could_be_unblocked_by(other, at, instruction) & fates[at].is_ahead();
+        if ends & helps {
             return true;
         }
+        helps = helps | (fates[at].may_come() & look.is_changed_by(instruction));
     }
     false
 }
 
 /// Whether a blocked thread waits for thread `other`: whether `other` owns the mutex that the
-/// blocked one waits for, or may still come to a statement that could end the wait. `code` and
-/// `fates` are those of `other`.
-pub fn waits_for(code: &[Instruction], fates: &[Fate], blocked: Blocked, other: u8) -> bool
+/// blocked one waits for, or comes, if it goes on, to a statement that could end the wait and helps
+/// the blocked thread, which would look so. `code` and `fates` are those of `other`.
+pub fn waits_for(
+    code: &[Instruction],
+    fates: &[Fate],
+    blocked: Blocked,
+    look: &Look,
+    other: u8,
+) -> bool
     requires { length fates.now ≡ length code.now }
-    ensures { IsTrue result ↔ FindsEdge code.now fates.now blocked other }
+    ensures { IsTrue result ↔ FindsEdge code.now fates.now blocked look.now other }
 {
-    owns(other, blocked.owner) || may_still_end_wait(code, fates, blocked, other)
+    owns(other, blocked.owner) || comes_to_help(code, fates, blocked, look, other)
 }

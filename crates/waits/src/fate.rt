@@ -1,15 +1,17 @@
-//! What came of each instruction of a thread in a schedule: carried out, still ahead, or passed by.
+//! What came of each instruction of a thread in a schedule: carried out, still ahead, or neither.
 
-ghost use Rattle.std.specs.Prelude.{◌≡◌, ◌≤◌, ◌<◌, ◌^◌, ◌↔◌, ℕ, List, IsTrue, length, IfOk};
+ghost use Rattle.std.specs.Prelude.{◌≡◌, ◌≤◌, ◌<◌, ◌+◌, ◌^◌, ◌↔◌, nat_lt, ℕ, ℤ, List, IsTrue, length, IfOk};
 ghost use Rattle.guest_code.specs.declared.program.Instruction.{Instruction};
-ghost use Rattle.guest_code.specs.Program.{JumpsWithin, code_of};
+ghost use Rattle.guest_code.specs.Program.{Program, JumpsWithin, IsValidCode, code_of};
 ghost use Rattle.explain.specs.declared.step.Step.{Step};
-ghost use Rattle.waits.specs.Fates.{Fates, place_of};
+ghost use Rattle.waits.specs.Fates.{Fates, is_to_come, locals_of, place_of};
 ghost use Rattle.waits.specs.Waiting.{AllFates};
 ghost use Rattle.waits.specs.inner.Rows.{lists, Fits};
-ghost use Rattle.waits.specs.inner.Taking.{AreFates, fate_by, taken_by, with_taken};
+ghost use Rattle.waits.specs.inner.Taking.{AreByMarks, AreFates, fate_by, taken_by, with_taken};
 
+use crate::ways::{reach_after, settled_code};
 use explain::{Explanation, Step};
+use guest_code::limits::LOCALS;
 use guest_code::program::{Instruction, Program};
 use lint::paths::{Mark, Watch, path_marks};
 use std::alloc::{AllocError, Global};
@@ -19,31 +21,45 @@ use std::alloc::{AllocError, Global};
 pub enum Fate {
     /// The instruction was carried out, first in the step at this place.
     Taken(usize),
-    /// The instruction wasn't carried out, and some path through the code leads to it from where
-    /// its thread is at the end.
+    /// The instruction wasn't carried out, and its thread comes to it if it goes on: ways lead to it
+    /// from where its thread is at the end, and none past it.
     Ahead,
-    /// The instruction wasn't carried out, and no path leads to it from where its thread is at the
-    /// end.
-    PassedBy,
+    /// The instruction wasn't carried out, and its thread may come to it: some way leads to it, and
+    /// some way past it.
+    Perhaps,
+    /// The instruction wasn't carried out, and no way leads to it: its thread has passed it by, or a
+    /// test ahead will.
+    OutOfReach,
 }
 
 impl Fate {
-    /// Whether the thread hasn't carried out the instruction, and may still come to it.
+    /// Whether the thread hasn't carried out the instruction, and comes to it if it goes on.
     pub fn is_ahead(self) -> bool
         ensures { IsTrue result ↔ (self ≡ Fate.Ahead) }
     {
         matches!(self, Fate::Ahead)
     }
 
-    // What came of an instruction if no step carried it out: ahead where a path leads to it from
-    // where its thread is at the end, which either flag of `mark` says, else passed by.
-    fn from_mark(mark: Mark) -> Fate
-        ensures { result ≡ fate_by mark }
+    /// Whether the thread hasn't carried out the instruction, and comes to it or may come to it.
+    pub fn may_come(self) -> bool
+        ensures { result ≡ is_to_come self }
+    {
+        matches!(self, Fate::Ahead | Fate::Perhaps)
+    }
+
+    // What came of the instruction of number `at` if no step carried it out: whether some way leads
+    // to it either flag of `mark` says, and `reach` how far ways lead from instructions before it.
+    fn by_ways(mark: Mark, at: usize, reach: usize) -> Fate
+        ensures { result ≡ fate_by mark (nat_lt at reach) }
     {
         if mark.may_hold || mark.may_not_hold {
-            Fate::Ahead
+            if at < reach {
+                Fate::Perhaps
+            } else {
+                Fate::Ahead
+            }
         } else {
-            Fate::PassedBy
+            Fate::OutOfReach
         }
     }
 
@@ -54,7 +70,7 @@ impl Fate {
     {
         match self {
             Fate::Taken(_) => self,
-            Fate::Ahead | Fate::PassedBy => Fate::Taken(place),
+            Fate::Ahead | Fate::Perhaps | Fate::OutOfReach => Fate::Taken(place),
         }
     }
 }
@@ -70,20 +86,57 @@ pub fn end_pc(told: &Explanation, thread: u8) -> usize
     }
 }
 
-// What came of each instruction of a code if no step carried it out: ahead where a path leads to it
-// from the instruction of number `place`, at which the thread is at the end, else passed by. A
-// `place` past the code counts as its end.
-fn fates_by_path(alloc: Global, code: &[Instruction], place: usize) -> Result<Vec<Fate>, AllocError>
-    requires jumps { JumpsWithin code.now }
-    requires short { length code.now < 2 ^ 32 }
-    ensures { IfOk result (λ v. (steps : List Step) (t : ℕ) → AreFates code.now place steps t 0 v.items) }
+/// The values of a thread's locals at the end of an explained schedule; 0 where there is no such
+/// thread.
+pub fn end_locals(told: &Explanation, thread: u8) -> [i64; LOCALS]
+    ensures { result ≡ locals_of told.now thread }
 {
-    let marks = path_marks(alloc, code, Watch::Nothing, place.min(code.len()), false)?;
+    match told.thread_state(thread) {
+        Some(thread_state) => thread_state.locals,
+        None => [0; LOCALS],
+    }
+}
+
+// What came of each instruction of a code if no step carried it out. `settled` is the code as the
+// thread's locals decide it, and `marks` says to which of its instructions some path leads.
+fn fates_by_marks(
+    alloc: Global,
+    settled: &[Instruction],
+    marks: &[Mark],
+) -> Result<Vec<Fate>, AllocError>
+    requires jumps { JumpsWithin settled.now }
+    requires short { length settled.now < 2 ^ 32 }
+    requires marks { length marks.now ≡ length settled.now + 1 }
+    ensures { IfOk result (λ v. AreByMarks settled.now marks.now (length settled.now) v.items) }
+{
     let mut fates = Vec::new(alloc);
-    for at in 0..code.len() {
-        fates.push(Fate::from_mark(marks[at]))?;
+    let mut reach = 0;
+    for (at, instruction) in settled.iter().enumerate() {
+        fates.push(Fate::by_ways(marks[at], at, reach))?;
+        reach = reach_after(reach, at, marks[at], instruction);
     }
     Ok(fates)
+}
+
+// What came of each instruction of a code if no step carried it out, where its thread is at the
+// instruction of number `place` at the end, with these values of its locals. A `place` past the code
+// counts as its end.
+fn fates_by_ways(
+    alloc: Global,
+    code: &[Instruction],
+    place: usize,
+    locals: &[i64; LOCALS],
+) -> Result<Vec<Fate>, AllocError>
+    requires jumps { JumpsWithin code.now }
+    requires valid { (p : Program) × IsValidCode p code.now }
+    ensures { IfOk result (λ v. (steps : List Step) (t : ℕ) →
+        AreFates code.now place locals.now steps t 0 v.items) }
+{
+    let from = place.min(code.len());
+    let decided = settled_code(alloc, code, from, locals)?;
+    let settled = decided.as_slice();
+    let marks = path_marks(alloc, settled, Watch::Nothing, from, false)?;
+    fates_by_marks(alloc, settled, marks.as_slice())
 }
 
 // Marks an instruction as carried out in the step at this place, unless it is marked as carried out
@@ -99,9 +152,9 @@ fn mark_taken(fates: &mut [Fate], instruction: usize, place: usize)
 // Marks, of a thread's instructions, all that its steps carried out, each with the place of the
 // first step that did. `steps` are those of all threads.
 fn mark_all_taken(fates: &mut [Fate], steps: &[Step], thread: u8)
-    ensures { (code : List Instruction) (from : ℕ) →
-        AreFates code from steps.now thread 0 fates.old →
-        AreFates code from steps.now thread (length steps.now) fates.new }
+    ensures { (code : List Instruction) (from : ℕ) (locals : List ℤ) →
+        AreFates code from locals steps.now thread 0 fates.old →
+        AreFates code from locals steps.now thread (length steps.now) fates.new }
 {
     for (place, step) in steps.iter().enumerate() {
         if step.line.thread == thread {
@@ -121,7 +174,8 @@ fn fates_of(
     ensures { IfOk result (λ v. Fates program.now told.now thread v.items) }
 {
     program.keeps_limits();
-    let mut fates = fates_by_path(alloc, program.code(thread), end_pc(told, thread))?;
+    let locals = end_locals(told, thread);
+    let mut fates = fates_by_ways(alloc, program.code(thread), end_pc(told, thread), &locals)?;
     mark_all_taken(&mut fates, told.steps(), thread);
     Ok(fates)
 }

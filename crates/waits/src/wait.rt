@@ -10,6 +10,7 @@ ghost use Rattle.waits.specs.inner.Rows.{lists, Fits, FindsEdge};
 use crate::ending::{Blocked, Statement, unblocking_statements, waits_for};
 use crate::fate::{Fate, all_fates};
 use crate::graph::{Rows, circle_of, transitive_closure};
+use crate::look::Look;
 use explain::{Explanation, Reason, Step};
 use guest_code::limits::THREADS;
 use guest_code::program::Program;
@@ -26,12 +27,15 @@ pub struct Wait {
     /// The place of the thread's last step, after which it came to this wait; at a `wait`, the
     /// first step of that statement. `None` where the thread took no step.
     pub since: Option<usize>,
+    /// What the thread would look at, if it waits for a condition and were woken as things are.
+    pub look: Look,
     /// Each statement that could end the wait, in the order of threads and instructions: for a
     /// mutex those of its owner that release it; for a condition or a semaphore each `signal`,
     /// `broadcast` or `release` of it, of the thread's own code those before the wait.
     pub statements: Vec<Statement>,
-    /// The threads that the thread waits for: the owner of the mutex, and each thread that may
-    /// still come to a statement that could end the wait.
+    /// The threads that the thread waits for: the owner of the mutex, and each thread that comes,
+    /// if it goes on, to a statement that could end the wait and helps the thread: woken as things
+    /// are, it goes on, or the other may have changed what it looks at.
     pub on: Mask,
     /// The threads of the thread's circle: those for which it waits, directly or through others,
     /// and that wait so for it. Empty where it is in no circle.
@@ -57,12 +61,15 @@ pub struct Waits {
 
 impl Waits {
     /// The waits of all threads that are blocked at the end of an explained schedule, also where a
-    /// thread stopped in an error, and the circles of these threads. Fails where memory runs out.
+    /// thread stopped in an error, and the circles of these threads. Of an explanation that isn't
+    /// one of this program, all is told as if the told threads stood in its code: a thread without
+    /// code has no statements, and one that stands past its code has nothing ahead. Fails where
+    /// memory runs out.
     pub fn new(alloc: Global, program: &Program, told: &Explanation) -> Result<Waits, AllocError>
         ensures { IfOk result (TellsWaits program.now told.now) }
     {
         let fates = all_fates(alloc, program, told)?;
-        let edges = wait_for_graph(program, told, fates.as_slice());
+        let edges = wait_for_graph(alloc, program, told, fates.as_slice())?;
         let leads = transitive_closure(edges);
         let mut waits = Vec::new(alloc);
         for t in 0..program.threads() {
@@ -71,6 +78,7 @@ impl Waits {
                     thread: t,
                     reason: blocked.reason,
                     since: last_step(told.steps(), t),
+                    look: Look::of(alloc, program, told, blocked)?,
                     statements: unblocking_statements(alloc, program, fates.as_slice(), blocked)?,
                     on: edges[t as usize],
                     circle: circle_of(&leads, t),
@@ -124,17 +132,18 @@ fn last_step(steps: &[Step], thread: u8) -> Option<usize>
     last
 }
 
-// The threads that a blocked thread waits for. `fates` has, for each thread, what came of each of
-// its instructions.
-fn waited_for(program: &Program, fates: &[Vec<Fate>], blocked: Blocked) -> Mask
+// The threads that a blocked thread waits for, which would look so if it were woken. `fates` has,
+// for each thread, what came of each of its instructions.
+fn waited_for(program: &Program, fates: &[Vec<Fate>], blocked: Blocked, look: &Look) -> Mask
     requires { Fits program.now (lists fates.now) }
     ensures { (u : ℕ) → IsTrue (has result u) ↔ ((u < length program.now.threads)
-        × FindsEdge (code_of program.now u) (slice_index_or (lists fates.now) u []) blocked u) }
+        × FindsEdge (code_of program.now u) (slice_index_or (lists fates.now) u []) blocked
+        look.now u) }
 {
     let mut on = Mask::empty();
     for u in 0..program.threads() {
         let theirs = fates[u as usize].as_slice();
-        on = on.with(u, waits_for(program.code(u), theirs, blocked, u));
+        on = on.with(u, waits_for(program.code(u), theirs, blocked, look, u));
     }
     on
 }
@@ -142,18 +151,25 @@ fn waited_for(program: &Program, fates: &[Vec<Fate>], blocked: Blocked) -> Mask
 // The wait-for graph at the end of an explained schedule: for each thread the threads that it waits
 // for, none for one that isn't blocked. `fates` has, for each thread, what came of each of its
 // instructions.
-fn wait_for_graph(program: &Program, told: &Explanation, fates: &[Vec<Fate>]) -> Rows
+fn wait_for_graph(
+    alloc: Global,
+    program: &Program,
+    told: &Explanation,
+    fates: &[Vec<Fate>],
+) -> Result<Rows, AllocError>
     requires fates { AllFates program.now told.now (lists fates.now) }
     requires fits { Fits program.now (lists fates.now) }
-    ensures { (t u : ℕ) → IsIn result t u ↔ WaitsFor program.now told.now t u }
+    ensures { IfOk result (λ rows. (t u : ℕ) →
+        IsIn rows t u ↔ WaitsFor program.now told.now t u) }
 {
     let mut edges = [Mask::empty(); THREADS];
     for t in 0..program.threads() {
         if let Some(blocked) = Blocked::of(told, t) {
-            edges[t as usize] = waited_for(program, fates, blocked);
+            let look = Look::of(alloc, program, told, blocked)?;
+            edges[t as usize] = waited_for(program, fates, blocked, &look);
         }
     }
-    edges
+    Ok(edges)
 }
 
 // Whether a thread is the first of a set: whether it is in the set, and no thread with a lesser

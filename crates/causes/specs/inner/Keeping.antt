@@ -9,8 +9,8 @@ use Rattle.lint.specs.Uses.{local_set}
 use Rattle.causes.specs.Events.{written_by, is_end, reads, writes, is_use, sets_local, uses_local}
 use Rattle.causes.specs.Asked.{asks_for}
 use Rattle.lint.specs.Paths.{is_test}
-use Rattle.causes.specs.Tests.{merge_point}
-use Rattle.causes.specs.Causes.{any_below, ends_with, is_up_to, least_with}
+use Rattle.causes.specs.Tests.{merge_point, passes_write}
+use Rattle.causes.specs.Causes.{any_below, ends_with, is_below, least_with}
 
 -- the flag of a number, if it is there
 abbrev pub found : List Bool → Option ℕ → Bool
@@ -30,7 +30,7 @@ entry entries t = slice_index_or entries t None
 -- an event is a test by which its thread came to one in the cause, where this is the least of those
 abbrev pub decides_by : Program → Event → Option ℕ → Bool
 decides_by p e least =
-    is_test e.statement && is_up_to (merge_point (code_of p e.thread) e.instruction) least
+    is_test e.statement && is_below (merge_point (code_of p e.thread) e.instruction) least
 
 -- a write of thread t is missed
 abbrev pub is_missed_by_in : BackwardSlice → ℕ → ℕ → ℕ → Bool
@@ -40,13 +40,20 @@ abbrev pub is_missed_in : BackwardSlice → ℕ → Option ℕ → Bool
 is_missed_in w t None = false
 is_missed_in w t (Some x) = any_below (is_missed_by_in w t x) THREADS
 
+-- an event is a test that passed by what would have written variable x, which is read, or one that is
+abbrev pub passes_in : Program → BackwardSlice → Event → ℕ → Bool
+passes_in p w e x = slice_index_or w.read x false && passes_write p x e
+
+abbrev pub passes_read_in : Program → BackwardSlice → Event → Bool
+passes_read_in p w e = any_below (passes_in p w e) VARIABLES
+
 -- an event is needed
 abbrev pub needs : Program → BackwardSlice → Event → Bool
 needs p w e = is_end e || (found w.read (written_by e.statement e.deed)
     || (found (slice_index_or w.used e.thread []) (local_set e.statement)
     || (decides_by p e (entry w.least e.thread)
-    || (is_missed_in w e.thread (written_by e.statement e.deed)
-    || list_any (λ end. asks_for p end e) w.ends.items))))
+    || (is_missed_in w e.thread (written_by e.statement e.deed) || (passes_read_in p w e
+    || list_any (λ end. asks_for p end e) w.ends.items)))))
 
 -- the place was moved before an event, marked or not
 pub record IsMovedBefore (e : Event) (mark : Bool) (old new : BackwardSlice) : Type 0 where

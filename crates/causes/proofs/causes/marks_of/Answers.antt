@@ -1,12 +1,12 @@
 use Rattle.std.proofs.Common.{◌≡◌, ◌∙◌, [], ◌<◌, ◌+◌, ◌-◌, sym, subst, refl, arith, take, drop, length}
 use Rattle.std.proofs.lemmas.List.{length-set}
-use Rattle.causes.specs.Causes.{marked, marks_in, no_event}
+use Rattle.causes.specs.Causes.{event_at, marked, marks_in, no_event}
 use Rattle.causes.specs.Needs.{AreMarks}
 use Rattle.causes.specs.inner.Wanting.{IsWanted}
 use Rattle.causes.proofs.Back.{wanted_back, marks_back, used_here}
 use Rattle.causes.proofs.Marks.{marks_are_the_cause}
 use Rattle.causes.proofs.Places.{first_event, rest_marked}
-use Rattle.causes.proofs.Valid.{uses_few}
+use Rattle.causes.proofs.Valid.{reads_few, uses_few}
 use Rattle.causes.proofs.causes.marks_of.Goals as goal
 
 pub take_event-requires-clause-used : goal.take_event-requires-clause-used
@@ -55,4 +55,5 @@ returns c =
     c.events.invariant.marks in
     subst (λ ms. AreMarks p es ms) (sym all) (marks_are_the_cause p es (λ i l.
     let a = (c.requires i no_event l).thread in let b = c.keeps_limits.ensures.threads in
-    omega (arith, a, b)))
+    omega (arith, a, b)) (λ i l x h. reads_few p (event_at es i).statement x
+    c.keeps_limits.ensures (c.requires i no_event l).statement h))

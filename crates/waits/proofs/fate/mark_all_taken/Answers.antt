@@ -6,7 +6,7 @@ use Rattle.waits.proofs.fate.mark_all_taken.Goals.{then-step-thread, else-step-t
 use Rattle.waits.proofs.fate.mark_all_taken.Goals as goal
 
 pub loop-place-preserved : goal.loop-place-preserved
-loop-place-preserved c = λ code from begun.
+loop-place-preserved c = λ code from locals begun.
     let steps = c.args.steps.now in
     let t = c.args.thread in
     let n = c.loop-place.place in
@@ -14,18 +14,18 @@ loop-place-preserved c = λ code from begun.
     let step = c.index-steps-place.result in
     let at = slice_get_read steps (length steps) n step refl c.loop-place-test.true
     c.index-steps-place.is in
-    let before = c.loop-place.invariant code from begun in
+    let before = c.loop-place.invariant code from locals begun in
     elim c.if-step-thread.branch [
-      | then-step-thread w ↦ subst (AreFates code from steps t (n + 1))
+      | then-step-thread w ↦ subst (AreFates code from locals steps t (n + 1))
           (sym (w.fates-is ∙ w.mark_taken.ensures))
-          (passed_own code from steps t n step fates at w.if-step-thread.true before)
-      | else-step-thread w ↦ subst (AreFates code from steps t (n + 1)) (sym w.fates-is)
-          (passed_other code from steps t n step fates at w.if-step-thread.false before)
+          (passed_own code from locals steps t n step fates at w.if-step-thread.true before)
+      | else-step-thread w ↦ subst (AreFates code from locals steps t (n + 1)) (sym w.fates-is)
+          (passed_other code from locals steps t n step fates at w.if-step-thread.false before)
     ]
 
 pub returns : goal.returns
-returns c = λ code from begun.
-    let P : ℕ → Type 0 = λ n. AreFates code from c.args.steps.now c.args.thread n
+returns c = λ code from locals begun.
+    let P : ℕ → Type 0 = λ n. AreFates code from locals c.args.steps.now c.args.thread n
     c.loop-place.fates in
     subst P (omega (arith, c.loop-place-test.false, c.loop-place.auto.place-end))
-    (c.loop-place.invariant code from begun)
+    (c.loop-place.invariant code from locals begun)

@@ -6,7 +6,7 @@ use Rattle.semantics.specs.declared.mask.Mask.{Mask}
 use Rattle.waits.specs.Graph.{WaitsFor, IsIn}
 use Rattle.waits.proofs.Sets.{rows_none, rows_put, rows_kept, both}
 use Rattle.waits.proofs.FoundAhead.{edges_found}
-use Rattle.waits.proofs.wait.wait_for_graph.Goals.{in-Some, in_default}
+use Rattle.waits.proofs.wait.wait_for_graph.Goals.{in-Some+in_ok-look, in_default}
 use Rattle.waits.proofs.wait.wait_for_graph.Goals as goal
 
 pub loop-t-init : goal.loop-t-init
@@ -35,12 +35,13 @@ loop-t-preserved c =
     ) in
     let before = c.loop-t.invariant.edges in
     elim c.match-of.branch [
-      | in-Some w ↦ record {
+      | in-Some+in_ok-look w ↦ record {
         length = subst L (sym w.edges-is)
             (length-set old t w.waited_for.result ∙ c.loop-t.invariant.length);
         edges = subst P (sym w.edges-is) (rows_put E old t w.waited_for.result within
             (λ u. both (w.waited_for.ensures u) (edges_found p told _ t u w.in-Some.blocked
-            c.requires.fates inside (sym c.of.ensures ∙ w.in-Some.is))) before);
+            w.in_ok-look.look c.requires.fates inside (sym c.of.ensures ∙ w.in-Some.is)
+            w.in_ok-look.ensures)) before);
       }
       | in_default w ↦ record {
         length = subst L (sym w.edges-is) c.loop-t.invariant.length;

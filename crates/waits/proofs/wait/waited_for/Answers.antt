@@ -14,16 +14,17 @@ loop-u-preserved c =
     let p = c.args.program.now in
     let all = c.args.fates.now in
     let b = c.args.blocked in
+    let look = c.args.look.now in
     let u = c.loop-u.u in
     let v = c.index-fates-u.result in
     let asked = c.waits_for.result in
-    let E : ℕ → Type 0 = λ u. FindsEdge (code_of p u) (get_or (lists all) u []) b u in
+    let E : ℕ → Type 0 = λ u. FindsEdge (code_of p u) (get_or (lists all) u []) b look u in
     let list = c.as_slice-theirs.ensures.value ∙ sym (list_at all u v
     (omega (arith, length-map all (λ (v : Vec Fate Global). v.items), c.requires.threads, c.threads-u-end.ensures.number, c.loop-u-test.true))
     c.index-fates-u.is) in
     let P : List Instruction → Type 0 = λ code. IsTrue asked
-    ↔ FindsEdge code c.as_slice-theirs.result.now b u in
-    let Q : List Fate → Type 0 = λ fates. IsTrue asked ↔ FindsEdge (code_of p u) fates b u in
+    ↔ FindsEdge code c.as_slice-theirs.result.now b look u in
+    let Q : List Fate → Type 0 = λ fates. IsTrue asked ↔ FindsEdge (code_of p u) fates b look u in
     let says = subst Q list (subst P c.code.ensures.code c.waits_for.ensures) in
     picked_more E c.loop-u.on c.with-on.result u asked c.with-on.ensures.same
     c.with-on.ensures.others says c.loop-u.invariant

@@ -7,4 +7,4 @@ use Rattle.waits.proofs.wait.waited_for.Given as goal
 
 abbrev pub invariant-loop-u : goal.invariant-loop-u
 invariant-loop-u l = (v : ℕ) → IsTrue (has l.on v) ↔ ((v < l.u)
-    × FindsEdge (code_of l.program v) (get_or (lists l.fates) v []) l.blocked v)
+    × FindsEdge (code_of l.program v) (get_or (lists l.fates) v []) l.blocked l.look v)

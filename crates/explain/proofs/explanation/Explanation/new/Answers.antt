@@ -16,6 +16,8 @@ returns c =
       threads = subst (λ s. TellsThreads p s c.in_ok-thread_states.thread_states.items) here
           c.in_ok-thread_states.ensures;
       holders = run.holders;
+      variables = c.in_ok-variables.ensures.items_if_clones_equal (λ x y e. e)
+          ∙ (c.variables.ensures ∙ ap (λ s. s.vars) here);
       preemptions = c.preemptions-preemptions.ensures ∙ run.reached.preemptions;
       kind = c.kind-kind.ensures ∙ ap (kind_of p) here;
     }

@@ -13,7 +13,7 @@ use Rattle.waits.specs.Waiting.{TellsWait, IsLastStep, circles_in}
 use Rattle.waits.specs.inner.Rows.{lists}
 use Rattle.waits.proofs.CirclesTold.{circles_told}
 use Rattle.waits.proofs.WaitsTold.{wait_told}
-use Rattle.waits.proofs.wait.Waits.new.Goals.{in-Some+in_ok-unblocking_statements+in_ok-push, in_default}
+use Rattle.waits.proofs.wait.Waits.new.Goals.{in-Some+in_ok-of+in_ok-unblocking_statements+in_ok-push, in_default}
 use Rattle.waits.proofs.wait.Waits.new.Goals as goal
 
 pub loop-t-preserved : goal.loop-t-preserved
@@ -27,7 +27,7 @@ loop-t-preserved c =
     let thread : Wait → ℕ = λ (w : Wait). w.thread in
     let P : Wait → Type 0 = TellsWait p told fates in
     elim c.match-of.branch [
-      | in-Some+in_ok-unblocking_statements+in_ok-push w ↦
+      | in-Some+in_ok-of+in_ok-unblocking_statements+in_ok-push w ↦
           (let pushed = ap (λ v. v.items) w.waits-is ∙ w.in_ok-push.ensures.items in
           let is : blocked_of told t ≡ Some w.in-Some.blocked = sym c.of.ensures ∙ w.in-Some.is in
           let Q : List Step → Type 0 = λ steps. IsLastStep steps t (length steps)
@@ -39,11 +39,11 @@ loop-t-preserved c =
             threads = passed_more test t (map thread old) _ c.loop-t.invariant.threads
                 (ap is_some is) (ap (map thread) pushed ∙ map_push thread old _);
             each = subst (All P) (sym pushed) (All-push P old _ c.loop-t.invariant.each
-                (wait_told p told fates _ w.in-Some.blocked c.wait_for_graph-edges.result
+                (wait_told p told fates _ w.in-Some.blocked c.in_ok-edges.edges
                 c.transitive_closure-leads.result is refl
-                (subst Q w.steps.ensures w.last_step.ensures)
+                (subst Q w.steps.ensures w.last_step.ensures) w.in_ok-of.ensures
                 (subst R w.as_slice-in-Some.ensures.value w.in_ok-unblocking_statements.ensures) refl
-                w.circle_of.ensures c.wait_for_graph-edges.ensures
+                w.circle_of.ensures c.in_ok-edges.ensures
                 c.transitive_closure-leads.ensures));
           })
       | in_default w ↦ (let kept = ap (λ v. v.items) w.waits-is in record {

@@ -1,6 +1,6 @@
 use Rattle.std.proofs.Common.{◌≡◌, ◌≤◌, length, drop}
 use Rattle.causes.specs.Tests.{merge_point, merge_point_from}
-use Rattle.causes.proofs.backward_slice.merge_point.Given as goal
+use Rattle.causes.proofs.decisions.merge_point.Given as goal
 
 abbrev pub invariant-loop-at : goal.invariant-loop-at
 invariant-loop-at l = record {

@@ -7,7 +7,7 @@ use Rattle.guest_code.specs.declared.program.Instruction.{Instruction}
 use Rattle.guest_code.specs.declared.program.Instruction.TheVariants.{Skip}
 use Rattle.guest_code.specs.Program.{skip_of}
 use Rattle.causes.specs.Tests.{merge_point_from}
-use Rattle.causes.proofs.backward_slice.merge_point.Goals as goal
+use Rattle.causes.proofs.decisions.merge_point.Goals as goal
 
 -- nothing further is passed over
 reached : (is : List Instruction) (at reach : ℕ) → reach ≤ at →
