@@ -49,6 +49,11 @@ CROWD = ("var x; var y; " + "".join("var %s; " % name for name in "abcdefg")
          + "\nthread A { store y 1; load r x; assert r == 0; }\nthread B { store x 1; }\n"
          + "".join("thread %s { store %s 1; }\n" % (name, name.lower()) for name in "CDEFG")
          + "thread H { store a 1; }\nthread I { store b 1; }\n")
+# B's store comes before, between or after A's 255: 256 schedules, 2 with no preemption, all with at most one.
+BETWEEN = "var x;\nthread A { repeat 15 { repeat 17 { store x 1; } } }\nthread B { store x 2; }\n"
+# Of each pair of threads one store is the last: sleep sets leave 2^8 schedules, and cut others short.
+PAIRS = "".join("var %s; " % name for name in "abcdefgh") + "".join(
+    "\nthread %s%d { store %s 1; }" % (name, number, name) for name in "abcdefgh" for number in (1, 2))
 
 FILES = {
     "pruned_away.guest": ("var x; var y;\nthread A { store y 1; load r x; assert r == 0; }\n"
@@ -71,6 +76,8 @@ FILES = {
     "left.guest": LEFT,
     "crowded.guest": CROWDED,
     "signals.guest": SIGNALS,
+    "between.guest": BETWEEN,
+    "pairs.guest": PAIRS,
     "refused.guest": "var x\n",
     "unclear.guest": "# expect: bda\n" + RACE,
     "twice.guest": "# expect: bad\n# expect: bad\n" + RACE,
@@ -131,6 +138,13 @@ SUITES = [
     (["tab\tname.guest"], [("tab\\x09name.guest", *APART_ROW)], "1 file: 1 as expected", 0),
     (["back\\slash.guest"], [("back\\x5cslash.guest", *APART_ROW)], "1 file: 1 as expected", 0),
     (["crossed.guest"], [("crossed.guest", "bad", "1", "1", "0,1", "6")], "1 file: 1 not as expected", 1),
+    # 256 are tried of both; of PAIRS prefixes are left then, under which sleep sets leave no schedule
+    (["between.guest", "pairs.guest", "--limit", "256"],
+     [("between.guest", "clean", "-", "-", "-", "256"), ("pairs.guest", "incomplete", "0", "-", "-", "256", "cut short at the limit")],
+     "2 files: 1 as expected, 1 cut short", 3),
+    (["between.guest", "pairs.guest", "--limit", "257"],
+     [("between.guest", "clean", "-", "-", "-", "256"), ("pairs.guest", "clean", "-", "-", "-", "256")],
+     "2 files: 2 as expected", 0),
 ]
 # What follows `# expect:` in RACE, which fails, or in CROSSED, which gets stuck, both with one preemption:
 # the status, and the note.
@@ -191,19 +205,40 @@ VERIFIED = [
      "RIGHT: no schedule of three.guest fails or gets stuck.\n", 0),
     (["left.guest", "--limit", "1"], "all schedules: none is bad (1 tried)\n"
      "RIGHT: no schedule of left.guest fails or gets stuck.\n"
-     "But loops that run out of turns were looked for up to the limit alone.\n", 0),
+     "But loops that run out of turns were looked for in 1 schedule alone.\n", 0),
     (["crowded.guest"], "all schedules: none is bad (10 tried)\n"
      "RIGHT: no schedule of crowded.guest fails or gets stuck.\n"
      "But W13 SignalToOneOfMany at 4:31: in some schedule two threads or more wait for this: a guest wakes the one that "
      "came first, a platform may wake another\n", 0),
     (["signals.guest", "--limit", "1"], "all schedules: none is bad (1 tried)\n"
      "RIGHT: no schedule of signals.guest fails or gets stuck.\n"
-     "But signals for which several threads wait were looked for up to the limit alone.\n", 0),
+     "But signals for which several threads wait were looked for in 1 schedule alone.\n", 0),
     # that B goes first takes no preemption, and comes second of those schedules
     (["pruned_away.guest"], "all schedules: one with 1 preemption is bad (2 tried)\n"
      "no preemption: one with no preemption is bad (2 tried)\n"
      "BAD: a schedule of pruned_away.guest with no preemption fails.\n"
      "See why: ctxbound explain pruned_away.guest 1,0x2\n", 1),
+    # the limit is reached with the last schedule; of PAIRS nobody knows yet that it is
+    (["between.guest", "--limit", "256"], "all schedules: none is bad (256 tried)\n"
+     "RIGHT: no schedule of between.guest fails or gets stuck.\n", 0),
+    (["pairs.guest", "--limit", "256"], "all schedules: cut short, and none of the 256 tried is bad\n"
+     "no preemption: cut short, and none of the 256 tried is bad\n"
+     "UNDECIDED: nothing is known of pairs.guest. A higher --limit says more.\n", 3),
+    (["pairs.guest", "--limit", "257"], "all schedules: none is bad (256 tried)\n"
+     "RIGHT: no schedule of pairs.guest fails or gets stuck.\n", 0),
+]
+# Searches, and at some limits the verdict, the bound and how many were tried. Of BETWEEN one walk without a bound tries all,
+# and bound 0 puts off 254 prefixes, which are walked in rounds of 64. Of PAIRS prefixes are left when all were tried.
+WHOLE = [(limit, "clean", 1, 256) for limit in (195, 255, 256, 257)]
+AT_LIMITS = [
+    (["explore", "between.guest"], [(1, "incomplete", 0, 2), (2, "incomplete", 0, 2), (3, "incomplete", 1, 66),
+                                    (66, "incomplete", 1, 66), (67, "incomplete", 1, 130), (194, "incomplete", 1, 194), *WHOLE]),
+    (["explore", "between.guest", "--quick"], [(2, "incomplete", 0, 2), (194, "incomplete", 1, 194), *WHOLE]),
+    (["explore", "between.guest", "--bound", "0"], [(limit, "clean", 0, 2) for limit in (1, 2, 3)]),
+    (["explore", "between.guest", "--workers", "2"], WHOLE[2:]),
+    (["unbounded", "between.guest"], [(limit, "clean", None, 256) for limit in (255, 256, 257)]),
+    *((["unbounded", "pairs.guest", *more], [(255, "incomplete", None, 256), (256, "incomplete", None, 256), (257, "clean", None, 256)])
+      for more in ([], ["--quick"], ["--workers", "2"])),
 ]
 
 # What `--progress` writes on standard error. Of RACE no schedule but the bad one has a preemption. Of
@@ -222,6 +257,7 @@ PROGRESS = [
     (["suite", "race.guest", "clean.guest"],
      "race.guest:\nunbounded: 3 tried, 1 bad, 0 open\nbound 0: 2 tried, 0 bad, 0 open, 1 deferred\n"
      "bound 1: 3 tried, 1 bad, 0 open\nclean.guest:\nunbounded: 1 tried, 0 bad, 0 open\n"),
+    (["verify", "race.guest"], "unbounded: 3 tried, 1 bad, 0 open\nbound 0: 2 tried, 0 bad, 0 open\n"),
 ]
 PROGRESS_LINE = re.compile(r"(?:bound (\d+)|unbounded): ([\d,]+) tried, ([\d,]+) bad, ([\d,]+) open"
                            r"(?:, ([\d,]+) deferred)?")
@@ -483,6 +519,12 @@ class Commands(Tester):
         # Eight threads of one store each: more schedules than a round tries.
         text = "".join("var %s; " % name.lower() for name in SIXTEEN[:8])
         text += "".join(threads(name, "store %s 1; " % name.lower()) for name in SIXTEEN[:8])
+        for words, limits in AT_LIMITS:
+            for limit, *wanted in limits:
+                out, err, status = self.run([*words, "--limit", str(limit)])
+                told = json.loads(out)
+                self.compare([*words, limit], ([told[key] for key in ("verdict", "bound", "tried")], err, status),
+                             (wanted, "", 0 if wanted[0] == "clean" else 3))
         words = ["explore", "-", "--bound", "0", "--limit", "1000"]
         out, err, status = self.run(words, text)
         tried = int(re.match(r"\d*", out[len(CUT_SHORT):])[0] or 0)
@@ -553,15 +595,16 @@ class Commands(Tester):
             begins = ((["explain", "-", "0"], LOADS,
                        place + ": FAILED: assert r   in A after 1 step with 0 preemptions.\n"
                        "    r = 0   loaded in step 0 (%s) from x, which nobody had written before\n" % told),
-                      (["check", "--short", "-"], LOADS, "%s:%d:5: warning W4 NeverStored: " % declared),
-                      (["check", "--short", "-"], UNKNOWN, place + ":19: error C2 Unknown: "),
-                      (["check", "-"], UNKNOWN, (place + ":19:\n") * is_marked + "ctxbound: %s\n" % refusal),
+                      (["check", "--short", "-"], LOADS, "%s:%d%s: warning W4 NeverStored: " % (
+                          *declared, "" if is_marked else ":5")),
+                      (["check", "--short", "-"], UNKNOWN, place + ("" if is_marked else ":19") + ": error C2 Unknown: "),
+                      (["check", "-"], UNKNOWN, (place + ":\n") * is_marked + "ctxbound: %s\n" % refusal),
                       *((words, UNKNOWN, "ctxbound: %s\n" % refusal)
                         for words in (["replay", "-", "0"], ["explore", "-"], ["explain", "-", "0"])))
-            has = ((["suite", "-"], UNKNOWN, refusal + " (%s:19)" % place * is_marked + "\n"),
+            has = ((["suite", "-"], UNKNOWN, refusal + " (%s)" % place * is_marked + "\n"),
                    (["suite", "-"], LOADS + "# Expect: bad\n", after + " looks like `# expect:` and isn't\n"),
                    (["suite", "-"], LOADS + "# expect: good\n", after + ": one `# expect:` is wanted"),
-                   (["verify", "-"], WAITS, "But W12 RanOut at %s:3: " % (place if is_marked else line + 1)))
+                   (["verify", "-"], WAITS, "But W12 RanOut at %s: " % (place if is_marked else "%d:3" % (line + 1))))
             for words, text, wanted in begins + has:
                 out, err, _ = self.run(words, (head + text))
                 is_so = (err + out).startswith(wanted) if (words, text, wanted) in begins else wanted in out + err
@@ -718,8 +761,9 @@ class Commands(Tester):
     def first(self, first):
         """The three commands of `first` print what they print here; it refuses all other words."""
         asked = lambda words: run([first, *words], cwd=self.folder)
-        for words in (*(["explore", name, "--trace"] for name in FILES if name.endswith(".guest")),
-                      *(["explain", name] for name in FILES if name.endswith(".guest")),
+        # A search of pairs.guest with a bound has 16! schedules before it: none ends.
+        guests = [name for name in FILES if name.endswith(".guest") and name != "pairs.guest"]
+        for words in (*(["explore", name, "--trace"] for name in guests), *(["explain", name] for name in guests),
                       *(["explain", "race.guest", text] for text in ("0,1,0", "-", "0", "0,", "7", "0x3")),
                       ["explain", "refused.guest", "0"], ["explain", "gone.guest"], ["explain", "folder"],
                       *(["replay", "race.guest", text] for text in ("0,1,0", "0x2,1", "-", "0", "0,", "7", "0x3")),

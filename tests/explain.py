@@ -61,6 +61,9 @@ CASES = [
     (HERE, "marked_m4.guest", [], 1, "marked_m4.txt"),
     (HERE, "jdk_6801020.guest", [], 1, "jdk_6801020.txt"),
     (HERE, "k8s_62464.guest", [], 1, "k8s_62464.txt"),
+    (HERE, "linux_pipe_both.guest", ["0x10,1x10,0x8"], 1, "linux_pipe_both.txt"),
+    (HERE, "clh.guest", ["0x23,1x10"], 1, "clh.txt"),
+    (HERE, "hemmendinger.guest", ["0x3,1x3,2x14,0x4,1x4"], 1, "hemmendinger.txt"),
 ]
 
 # A guest that a preprocessor wrote, a schedule, and from which line on its lines come from which file and line.

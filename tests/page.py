@@ -5,11 +5,13 @@ rounds.
 
 Usage: tests/page.py BINARY
 
-- The slider is moved to each step. The variables, owners, queues and counts that the page shows there must
+- Each step has a row, but for those after a failure that aren't in the cause.
+- The slider is moved to each row. The variables, owners, queues and counts that the page shows there must
   be those that the trace gives, and the threads that it shows beside the lines those that the JSON names.
 - Where a search found the schedule, the ends and the counts must be those of its report.
-- The summary must have the kind, the steps and the preemptions that the trace has, up to a failure; the words
-  and the command must be those of the text.
+- The summary must have the kind, the steps and the preemptions that the trace has, up to a failure. It, the
+  paragraphs below it and the command must be the text without its table, and say nothing twice; each thread
+  and each step that a paragraph names leads to a row of its own.
 - Who waits for whom must be the edges and circles of the JSON, and not be there where nobody waits.
 - The numbers beside the source, and the place of the chosen step, are those of a preprocessor's marks.
 - Each key moves where it says; the page is no wider than a window of 390 pixels; the chosen step can be seen;
@@ -57,14 +59,15 @@ window.addEventListener("load", () => {
     beside.push(all("#source .line").flatMap((line, i) => [...line.querySelectorAll(".badge")].map((b, j) =>
       [b.textContent, i + 1, line.querySelectorAll(".statement")[j].textContent])));
     const box = document.getElementById("lanes").getBoundingClientRect();
-    const step = k === 0 ? box : document.querySelector("#step" + (k - 1) + " circle").getBoundingClientRect();
+    const step = k === 0 ? box : all("#lanes .step")[k - 1].querySelector("circle").getBoundingClientRect();
     if (step.top < box.top || step.bottom > box.bottom || step.left < box.left || step.right > box.right) unseen.push(k);
   }
   const text = (id) => document.getElementById(id).textContent, search = document.getElementById("search");
   const shown = { states: seen, title: text("title"), scripts: document.scripts.length,
     images: document.images.length, broken: window.broken === undefined ? 0 : 1, hidden: search.hidden,
-    beside: beside, unseen: unseen, keys: keys, wide: wide, opened: opened, summary: text("summary"), why: text("why"),
-    command: text("command"), waits: document.getElementById("waits").hidden, nodes: all("#graph .node").map((e) => e.textContent),
+    beside: beside, unseen: unseen, keys: keys, wide: wide, opened: opened, summary: text("summary"),
+    why: all("#why p").map((p) => p.textContent), links: all("#why a").map((a) => [a.textContent, a.hash]),
+    rows: all("#lanes .step").map((e) => e.id), command: text("command"), waits: document.getElementById("waits").hidden, nodes: all("#graph .node").map((e) => e.textContent),
     edges: all("#graph .edge").length, circles: all("#graph .edge.circle").length, label: all("#graph svg").map((e) =>
     e.getAttribute("aria-label")), marks: all("#lanes .cause").map((e) => e.id), failed: all("#lanes .failed").length,
     numbers: all("#source .number").map((e) => [e.textContent, e.title]),
@@ -148,16 +151,37 @@ def ends_of(report, path, trace):
 few = lambda count, thing: "%d %s%s" % (count, thing, "" if count == 1 else "s")
 
 
-def summary(trace, told):
-    """How the schedule ends, in a line, and the step at which the page opens: of a failure what was up to it."""
+def ending(trace):
+    """How the schedule ends, in the words of the text, and after how many steps the page opens: of a failure what was up to it."""
     steps = [line.split() for line in trace if re.match(r"\d", line)]
     kind = next(line.split()[1] for line in trace if line.startswith("kind "))
     early = any(line.startswith("start ") for line in trace)
     stop = 0 if early else next((at + 1 for at, words in enumerate(steps) if "stop" in words), None)
     ran = len(steps) if stop is None else stop
-    kind = "failed" if stop is not None else "not complete" if kind == "none" else kind
+    kind = "FAILED" if stop is not None else "NOT COMPLETE" if kind == "none" else kind.upper()
     preemptions = sum("preempt" in words for words in steps[:ran])
-    return "%s after %s with %s" % (kind, few(ran, "step"), few(preemptions, "preemption")), ran
+    return kind, "after %s with %s." % (few(ran, "step"), few(preemptions, "preemption")), ran
+
+
+def words_of(path, text):
+    """The summary and the paragraphs that a page has of a text: all but its table, the name of the file and the command."""
+    head, *parts = [part for part in text.split("\n\n") if not part.startswith("step line")]
+    head, *lines = "\n".join([head, *parts]).rstrip("\n").split("\n")[:-1]
+    from_file = re.match(r"(.*?)(?::(\d+))?: (?=[A-Z]{3})", head)
+    summary = head[from_file.end():]
+    if from_file[2]:
+        place = "line " + from_file[2] if from_file[1] == str(path) else "%s:%s" % from_file.groups()
+        summary = summary.replace("FAILED", "FAILED in " + place, 1)
+    kept = [line.strip() for line in lines if line and "steps are shown; --all" not in line]
+    return [re.sub("  +", "\u2003", line) for line in (summary, *kept)]
+
+
+def links(told, rows, paragraphs):
+    """The steps and threads that paragraphs name, with the rows to which they lead: the step's, or the thread's last one."""
+    names = [thread["name"] for thread in told["opening"]["threads"]]
+    for found in re.finditer(r"\bstep (\d+)|\b(%s)\b" % "|".join(names), "\n".join(paragraphs)):
+        own = [k for k in rows if (k == int(found[1]) if found[1] else told["steps"][k]["name"] == found[2])]
+        yield from [[found[0], "#step%d" % own[-1]]] if own else []
 
 
 def beside(told):
@@ -214,7 +238,7 @@ def faults(tester, browser, path, search):
     report = json.loads(tester.run(search, path).out)
     schedule = report.get("schedule")
     words = command if schedule else ["-"]
-    page, text = (tester.run("explain", path, *words, *form).out for form in (["--html"], []))
+    page, text = (tester.run("explain", path, *words, *form).out for form in (["--html"], ["--width", "1000"]))
     told = json.loads(re.search(r'<script type="application/json" id="data">(.*?)</script>', page, re.S).group(1))
     got, errors = seen(browser, page, tester)
     trace = tester.run("replay", path, schedule or "-").out.split("\n")
@@ -224,22 +248,28 @@ def faults(tester, browser, path, search):
     shown_states = [{title: dict(rows) for title, rows in blocks if title in kinds} for blocks in got.pop("states")]
     rows, counts = ends_of(report, path, trace) if schedule else ([], "")
     marks = sum("this schedule" in row for row in rows)
-    last = len(told["steps"])
-    line, opened = summary(trace, told)
-    why = text.split("\n\n")[0].split("\n")[0]
+    kind, counts_told, ran = ending(trace)
+    shown_steps = [step["step"] for step in told["steps"] if step["step"] < ran or step["cause"]]
+    places, last = [0, *(k + 1 for k in shown_steps)], len(shown_steps)
+    line, *paragraphs = words_of(path, text)
     command = text.rstrip("\n").split("\n")[-1].removeprefix("Replay: ")
     want = {"title": str(path), "scripts": 3, "images": 0, "broken": 0, "hidden": not schedule, "counts": counts,
-            "ends": rows, "beside": beside(told), "unseen": [], "wide": 0, "opened": opened, "summary": line,
-            "why": why, "command": command, **graph(told), "numbers": list(numbers(told)),
-            "from": "%(file)s:%(line)d" % told["steps"][-1]["from"] if last and "from" in told["steps"][-1] else "",
+            "ends": rows, "beside": [beside(told)[k] for k in places], "unseen": [], "wide": 0, "summary": line,
+            "opened": last if ran == len(told["steps"]) else ran, "why": paragraphs, "command": command,
+            "links": list(links(told, shown_steps, paragraphs)), **graph(told), "numbers": list(numbers(told)),
+            "from": "%(file)s:%(line)d" % told["steps"][shown_steps[-1]]["from"]
+            if last and "from" in told["steps"][shown_steps[-1]] else "",
             "keys": {"End": last, "ArrowRight": last, "Home": 0, "ArrowLeft": 0, "ArrowDown": min(1, last), "ArrowUp": 0},
             "marks": ["step%d" % step["step"] for step in told["steps"] if step.get("cause")],
-            "failed": sum(step["stop"] is not None for step in told["steps"])}
-    got["why"] = got["why"].split("\n")[0]
-    if shown_states != states(path, trace) or got != want or marks != bool(schedule):
+            "rows": ["step%d" % k for k in shown_steps],
+            "failed": sum(told["steps"][k]["stop"] is not None for k in shown_steps)}
+    want_states = [states(path, trace)[k] for k in places]
+    if not line.startswith(kind) or counts_told not in line:
+        return ["the text tells another ending than the trace", line, kind, counts_told]
+    if shown_states != want_states or got != want or marks != bool(schedule):
         return ["the page and the trace, the JSON or the report differ",
                 *("%s: %r, not %r" % (key, got[key], want[key]) for key in want if got.get(key) != want[key]),
-                *([] if shown_states == states(path, trace) else [shown_states, states(path, trace)])]
+                *([] if shown_states == want_states else [shown_states, want_states])]
     return []
 
 

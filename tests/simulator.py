@@ -11,7 +11,10 @@ its statements. Its flat code is laid out only to say what a test passes over.
   finds, and by schedules drawn at random: complete ones, some cut short, some that name a thread which
   can't go on, some that go on past the end. So are N programs made at random (300), and a few that have
   what chance seldom makes: several circles, waits through conditions and semaphores.
-- The whole output is compared, byte for byte. Where it differs, the first fields that do are named.
+- The whole output is compared, byte for byte. Where it differs, the first fields that do are named. So are the sentences
+  in the head of the text, and what it says that each step changed.
+- Of the text it compares what is said of those that could end a wait: whether a waiter would go on if it were
+  woken, who has yet to come to a statement or may, and how often a thread passed one by.
 - Each field must have been seen with two values at least, so that no guest is too poor to show a
   constant one; and the comparison must notice each field of an explanation that is changed, left out or
   put in, one at a time.
@@ -122,6 +125,7 @@ class Reader:
         statement = Statement(word, begin, self.origins[begin[0] - 1])
         if word in ("if", "repeat"):
             statement.parts.append(self.expression() if word == "if" else self.number())
+            statement.end = self.tokens[self.at - 1][3]
             statement.blocks.append(self.block())
             if word == "if":
                 statement.has_else = self.peek() == "else" and bool(self.word())
@@ -190,24 +194,6 @@ def all_in(block):
             yield statement
 
 
-def reach(block):
-    """The statements of a block that may be come to from its begin, whatever is tested; whether its end may
-    be, and whether it may be left."""
-    found, leaves = [], False
-    for statement in block:
-        if statement.word == "leave":
-            return found, False, True
-        if not statement.blocks:
-            found.append(statement)
-        ways = [reach(inner) for inner in statement.blocks]
-        found += [one for way in ways for one in way[0]]
-        if statement.word == "if":
-            leaves = leaves or any(way[2] for way in ways)
-            if not any(way[1] for way in ways):
-                return found, False, leaves
-    return found, True, leaves
-
-
 def used_by(statement):
     """The locals whose values a statement uses."""
     parts = statement.parts[1:] if statement.word in ("add", "cas", "set", "store") else \
@@ -215,6 +201,16 @@ def used_by(statement):
     words = [word for part in parts for word in (part if isinstance(part, tuple) else (part,))]
     names = words[1:] if statement.word in ("add", "cas") else words
     return {word for word in names if isinstance(word, str) and word not in OPERATORS}
+
+
+def has_leave(block):
+    """Whether a `leave` in a block leaves the loop that the block is of."""
+    return any(one.word == "leave" or one.word == "if" and any(map(has_leave, one.blocks)) for one in block)
+
+
+def used_variable(event):
+    """The variable that an event reads, writes or may write, or None."""
+    return event.get("reads") or event.get("writes")
 
 
 # ---- a run
@@ -234,6 +230,8 @@ class Thread:
         self.number, self.name, self.locals, self.sets = number, name, {}, []
         # What happened so far in the run, and the events that the value of each local came from.
         self.events, self.origins, self.step = events, {}, None
+        # The loops with a `leave` that it came out of last with no turn left.
+        self.ran_out = []
         self.code, self.place = laid_out(block), 0
         self.status, self.stop = "running", None
         self.waits_on = None
@@ -255,14 +253,14 @@ class Thread:
 
     def note(self, statement, word, place, **told):
         """Puts down what happened at an instruction."""
-        self.events.append({"thread": self.number, "step": self.step, "place": place, "statement": statement,
+        self.events.append({"at": len(self.events), "thread": self.number, "step": self.step, "place": place, "statement": statement,
                             "word": word, "uses": used_by(statement) if word != "else" else set(), **told})
 
     def set(self, statement, local, value, from_events=()):
         """The event that was put down last sets a local, to a value that came from these events, too."""
         self.locals[local] = value
         self.origins[local] = {len(self.events) - 1, *from_events}
-        self.events[-1]["sets"] = local
+        self.events[-1].update(sets=local, value=value)
         self.sets.append({**statement.place(), "local": local, "value": value})
 
     def over(self, block, first=0):
@@ -304,7 +302,7 @@ class Thread:
 
     def branch(self, statement, place):
         which = 0 if self.result(statement.parts[0]) else 1
-        self.note(statement, "if", place, passes=self.code[place][2] * which)
+        self.note(statement, "if", place, passes=self.code[place][2] * which, was=which == 0)
         self.path.append(["if", statement, which])
         size = len(laid_out(statement.blocks[0]))
         left = yield from self.over(statement.blocks[which], place + 1 + which * (size + 1))
@@ -315,28 +313,62 @@ class Thread:
 
     def turns(self, statement, place):
         size = len(laid_out(statement.blocks[0]))
+        self.ran_out = [one for one in self.ran_out if one is not statement]
         for turn in range(statement.parts[0]):
             self.path.append(["repeat", statement, turn])
             left = yield from self.over(statement.blocks[0], place + turn * size)
             self.path.pop()
             if left:
-                break
+                return False
+        self.ran_out += [statement] * has_leave(statement.blocks[0])
         return False
 
-    def ahead(self):
-        """The statements that it may still come to, whatever is tested."""
-        found, falls, leaves = [], True, False
-        own = 1 if self.status in ("waiting", "woken") or self.stop in ("not-held", "sem-full") else 0
-        for kind, where, at in reversed(self.path):
-            if kind == "block" and falls:
-                rest, falls, left = reach(where[at + own:])
-                found, leaves = found + rest, leaves or left
-            elif kind == "repeat":
-                if falls and at + 1 < where.parts[0]:
-                    found += reach(where.blocks[0])[0]
-                falls, leaves = True, False
-            own = 1
-        return found
+    def run_out(self):
+        return sorted(self.ran_out, key=lambda one: one.begin)
+
+    def ways(self):
+        """The numbers of the instructions that it comes to, if it goes on, whatever it loads; and of those that it may
+        come to. A test goes as its locals have it, unless some path to it through the code sets one of them."""
+        begin = self.place if self.stop != "assert" else \
+            [event["place"] for event in self.events if event["thread"] == self.number][-1]
+        begin = len(self.code) if self.status == "ended" else begin
+        follow = lambda at: {at + 1 + self.code[at][2]} | ({at + 1} if self.code[at][1] == "if" else set())
+        set_before, by_way, past = {begin: set()}, {begin}, set()
+        for at in range(begin, len(self.code)):
+            statement, word, skip = self.code[at]
+            if at not in set_before:
+                continue
+            given = {statement.parts[0]} if word in ("load", "add", "cas", "set") else set()
+            for after in follow(at):
+                set_before[after] = set_before.get(after, set()) | set_before[at] | given
+            if at in by_way:
+                decided = word == "if" and not used_by(statement) & set_before[at]
+                afters = {at + 1 + (0 if self.result(statement.parts[0]) else skip)} if decided else follow(at)
+                by_way |= afters
+                past |= {between for after in afters for between in range(at + 1, after)}
+        if self.status in ("waiting", "woken") or self.stop in ("not-held", "sem-full"):
+            by_way.discard(begin)
+        return by_way - past, by_way
+
+    def look(self, values):
+        """Whether, woken from its wait as things are, it comes to a wait for the same condition, having done nothing
+        but loads; and what it loads."""
+        kept, loaded, at, word = self.locals, [], self.place + 1, None
+        self.locals = dict(kept)
+        while at < len(self.code):
+            statement, word, skip = self.code[at]
+            if word == "load":
+                loaded.append(statement.parts[1])
+                self.locals[statement.parts[0]] = values[statement.parts[1]]
+            elif word == "set":
+                self.locals[statement.parts[0]] = self.result(statement.parts[1])
+            elif word in ("if", "else", "leave"):
+                at += 0 if word == "if" and self.result(statement.parts[0]) else skip
+            elif word != "assert" or not self.result(statement.parts[0]):
+                break
+            at += 1
+        self.locals = kept
+        return at < len(self.code) and word == "wait" and statement.parts[0] == self.waits_on, loaded
 
     def before(self):
         """The statements that lie before the place where it is, in the turns that were made or in this one."""
@@ -371,7 +403,7 @@ class Run:
         self.threads = [Thread(number, name, block, self.events) for number, (name, block) in enumerate(guest.threads)]
         self.steps, self.carried, self.preemptions = [], [], 0
         self.since, self.failures = {}, []
-        self.writers = {}
+        self.writers, self.origins_told = {}, []
         self.opening = [{"name": t.name, "sets": t.sets, "next": self.next_of(t), "stop": t.stop} for t in self.threads]
         for thread in self.threads:
             self.note_failure(thread, None, None)
@@ -422,18 +454,46 @@ class Run:
         words = thread.at.parts[0] if thread.stop == "assert" else ()
         values = [word for word in words if word not in OPERATORS and not isinstance(word, int)]
         mutex = thread.at.parts[-1] if thread.stop == "not-held" else None
+        moved = mutex and self.moved(mutex, len(self.events) - 1)
         self.failures.append({
             "thread": thread.number, "name": thread.name, "step": step, "stop": thread.stop, **thread.at.place(),
             "text": thread.at.spelled(), "preemptions": self.preemptions, "mutex": mutex,
-            "owner": owners[mutex] if mutex else None,
+            "owner": owners[mutex] if mutex else None, "since": moved["step"] if moved else None,
+            "ran_out": [{**one.place(), "turns": one.parts[0]} for one in thread.run_out()],
             "values": [{"local": name, "value": thread.locals.get(name, 0), "origins": self.origins(thread, name)}
                        for name in dict.fromkeys(values)]})
 
     def origins(self, thread, local):
-        """The statements that the value of a local came from, each a statement that was carried out."""
-        return [{"name": self.threads[event["thread"]].name, **event["statement"].place(),
-                 "text": event["statement"].spelled(), "step": event["step"]}
-                for event in (self.events[at] for at in sorted(thread.origins.get(local, ())))]
+        """The statements that the value of a local came from, each a statement that was carried out. When a variable was
+        changed before and after one that uses it is put in once the run is over."""
+        events = [self.events[at] for at in sorted(thread.origins.get(local, ()))]
+        told = [{"name": self.threads[event["thread"]].name, **event["statement"].place(),
+                 "text": event["statement"].spelled(), "step": event["step"], "since": None, "changed": None}
+                for event in events]
+        self.origins_told += [pair for pair in zip(told, events) if used_variable(pair[1])]
+        return told
+
+    def change(self, variable, places):
+        """The first of these steps that left the variable with another value than it found; None where none did."""
+        return next((at for at in places if self.steps[at]["object"] == variable
+                     and self.steps[at]["old"] != self.steps[at]["new"]), None)
+
+    def changed_before(self, variable, step):
+        return self.change(variable, range(step - 1, -1, -1))
+
+    def changed_from(self, variable, step):
+        return self.change(variable, range(step, len(self.steps)))
+
+    def moved(self, mutex, at):
+        """The last event before a place by which a thread took a mutex or gave it back, or None."""
+        moves = [e for e in self.events[:at] if e["word"] in ("lock", "retake", "unlock", "wait") and not e.get("stops")
+                 and e["statement"].parts[-1] == mutex]
+        return moves[-1] if moves else None
+
+    def tell_changes(self):
+        for told, event in self.origins_told:
+            told["since"] = self.changed_before(used_variable(event), event["step"])
+            told["changed"] = self.changed_from(used_variable(event), event["step"])
 
     def carry_out(self, schedule):
         """Runs a schedule. The answer is the number that can't take the next step, if one can't."""
@@ -532,7 +592,7 @@ class Run:
                                "uses": set(), "waits": waits} for t, waits in blocked]
 
     def causes(self):
-        """The steps of which something is in the cause of how the run ended."""
+        """The places of the events that are in the cause of how the run ended."""
         events = self.with_ends()
         needed = {at for at, event in enumerate(events) if event.get("stops") or event["word"] == "blocked"}
         left = sorted(needed)
@@ -540,7 +600,7 @@ class Run:
             for before in set(self.needs(events, left.pop())) - needed:
                 needed.add(before)
                 left.append(before)
-        return {events[at]["step"] for at in needed}
+        return needed
 
     def needs(self, events, at):
         """The events before the one at a place that it needs: those that wrote and set what it reads and uses last,
@@ -550,15 +610,24 @@ class Run:
         own = [(k, e) for k, e in before if e["thread"] == event["thread"]]
         last = lambda those: [k for k, _ in those][-1:]
         if event.get("reads"):
-            yield from last([(k, e) for k, e in before if e.get("writes") == event["reads"]])
+            writes = last([(k, e) for k, e in before if e.get("writes") == event["reads"]])
+            yield from writes
+            yield from (k for k, e in before if e["word"] == "if" and k > max(writes, default=-1)
+                        and any(self.written(e)[at] == event["reads"] for at in range(e["passes"])))
         for local in event["uses"]:
             yield from last([(k, e) for k, e in own if e.get("sets") == local])
-        yield from (k for k, e in own if e["word"] == "if" and event["place"] <= self.reach(e))
+        yield from (k for k, e in own if e["word"] == "if" and event["place"] < self.reach(e))
         variable = event.get("reads") or event.get("writes")
         uses = last([(k, e) for k, e in own if variable and variable in (e.get("reads"), e.get("writes"))])
         for use in uses:
             yield from (k for k, e in before if k > use and e.get("writes") == variable and e["thread"] != event["thread"])
         yield from (k for k, e in before if self.asks(event, e))
+
+    def written(self, test):
+        """Of each instruction that a test passes by the variable that it writes, or may write, or None."""
+        code = self.threads[test["thread"]].code
+        return [one.parts[0 if word == "store" else 1] if word in ("store", "add", "cas") else None
+                for one, word, _ in code[test["place"] + 1:test["place"] + 1 + test["passes"]]]
 
     def reach(self, event):
         """The number of the first instruction after all that a test passes over, and what is passed over from there."""
@@ -580,7 +649,7 @@ class Run:
             return False
         waits = end["waits"]
         passed = self.passed(event, {"signal": ("signal", "broadcast"), "acquire": ("release",)}.get(
-            waits["act"], ("unlock",)), waits["object"])
+            waits["act"], ("unlock", "wait")), waits["object"])
         if waits["act"] in ("signal", "acquire"):
             ons = ("wait", "signal", "broadcast") if waits["act"] == "signal" else ("acquire", "release")
             return word in ons and parts[0] == waits["object"] or \
@@ -594,6 +663,51 @@ class Run:
         code = self.threads[event["thread"]].code
         over = code[event["place"] + 1:event["place"] + 1 + event.get("passes", 0)]
         return any(word in words and one.parts[-1] == name for one, word, _ in over)
+
+    def passes(self, thread, statements):
+        """The steps to which the events belong by which a thread passed one of these statements by, null before the
+        first step."""
+        return [event["step"] for event in self.events if event["thread"] == thread.number and any(
+            one is statement for statement in statements
+            for one, _, _ in thread.code[event["place"] + 1:event["place"] + 1 + event.get("passes", 0)])]
+
+    def sentences(self):
+        """What the text says under `Who could`: of each that waits for a condition whether it would go on, and with
+        which values; of each thread what it has yet to come to or may come to, and how often and in which step last it
+        passed a statement by."""
+        told, waiting = [], [(t, self.blocked_by(t)) for t in self.threads if self.blocked_by(t)]
+        if not (self.kind() == "stuck" or self.failures):
+            return told
+        for why in dict.fromkeys(why for _, why in waiting if why[0] in ("signal", "acquire")):
+            told.append(({"acquire": "release"}.get(why[0], why[0]), why[1]))
+            those = [t for t, other in waiting if other == why]
+            for thread in those if why[0] == "signal" else []:
+                again, loaded = thread.look(self.values)
+                if again or loaded:
+                    told.append((thread.name, "wait again" if again else "go on",
+                                 ", ".join(self.present(thread, name) for name in dict.fromkeys(loaded))))
+            for thread in self.threads:
+                waiter = next((t for t in those if t is not thread), those[0])
+                theirs = [one for other, one in self.enders(waiter) if other is thread]
+                ways = thread.ways() if waiter is not thread else ((), ())
+                for verb, numbers in zip(("has yet to", "may"), ways):
+                    if any(at < len(thread.code) and thread.code[at][0] in theirs for at in numbers):
+                        told.append((thread.name, verb))
+                        break
+                passes = self.passes(thread, theirs)
+                if passes:
+                    told.append((thread.name, "passed", len(passes), passes[-1] if len(passes) > 1 else None))
+        return told
+
+    def present(self, thread, name):
+        """A variable's value at the end, and the one that a thread loaded last, with its step."""
+        now = self.values[name]
+        seen = [(step["old"], step["step"]) for step in self.steps
+                if step["act"] == "load" and step["object"] == name and step["thread"] == thread.number][-1:]
+        if not seen:
+            return "%s is %d" % (name, now)
+        return "%s is still %d" % (name, now) if seen[0][0] == now else "%s is %d, and was %d in step %d" % (
+            name, now, *seen[0])
 
     def kind(self):
         if self.enabled():
@@ -622,13 +736,21 @@ class Run:
         if why is None:
             return None
         told = {"act": why[0], "object": why[1], "on": [], "statements": []}
+        again, loaded = thread.look(self.values) if why[0] == "signal" else (False, [])
+        if why[0] == "signal":
+            told.update(again=again, loads=loaded)
         for other, statement in self.enders(thread):
             taken = [at for at, (who, what) in enumerate(self.carried) if who is other and what is statement]
-            is_ahead = any(one is statement for one in other.ahead()) and \
-                (other is not thread or why[0] in ("lock", "retake"))
+            sure, perhaps = ([at for at in ways if at < len(other.code) and (other is not thread or why[0] in (
+                "lock", "retake"))] for ways in other.ways())
+            ahead = [at for at in sure if other.code[at][0] is statement]
+            is_ahead = bool(ahead) or any(other.code[at][0] is statement for at in perhaps) and "perhaps"
+            changes = [at for at in perhaps if other.code[at][1] in ("store", "add", "cas") and other.code[at][0].parts[
+                other.code[at][1] != "store"] in loaded]
+            helps = ahead and (not again or changes and min(changes) < max(ahead))
             told["statements"].append({"name": other.name, **statement.place(), "text": statement.spelled(),
-                                       "taken": taken, "ahead": is_ahead})
-            if is_ahead and other.name not in told["on"]:
+                                       "taken": taken, "passed": self.passes(other, [statement]), "ahead": is_ahead})
+            if helps and other.name not in told["on"]:
                 told["on"].append(other.name)
         if why[0] in ("lock", "retake"):
             told.update(holder=self.owners[why[1]], since=self.since[why[1]], on=[self.owners[why[1]]])
@@ -675,15 +797,195 @@ def explanation(name, text, schedule, search):
     objects = run.guest.objects
     refused = run.carry_out(schedule)
     kind, causes = run.kind(), run.causes()
+    run.tell_changes()
+    events = [event for at, event in enumerate(run.with_ends()) if at in causes]
+    steps = {event["step"] for event in events}
     for step in run.steps:
-        step["cause"] = step["step"] in causes
+        step["cause"] = step["step"] in steps
     told = {"file": name, "schedule": schedule_text(schedule), "kind": kind, "preemptions": run.preemptions,
             "refused": refused, "search": search,
             "opening": {"variables": objects["var"], "semaphores": objects["sem"], "declared": list(objects["var"]),
                         "mutexes": list(objects["mutex"]), "conditions": list(objects["cond"]), "threads": run.opening},
             "steps": run.steps, "threads": [run.thread_at_end(t) for t in run.threads], "circles": run.circles(),
-            "failures": run.failures, "end": run.end()}
+            "failures": run.failures, "end": run.end(),
+            "tests": [{"name": run.threads[event["thread"]].name, **event["statement"].place(), "step": event["step"],
+                       "text": event["statement"].spelled(), "was": event["was"]}
+                      for event in events if event["word"] == "if"]}
     return told, 2 if refused is not None else int(kind in ("failed", "stuck"))
+
+
+# ---- the sentences
+
+class Sentences:
+    """What the text says of a failure under its first line, a line for each that the text has, unwrapped; and what it says of
+    each step that the step changed."""
+
+    def __init__(self, name, text, schedule):
+        self.run, self.file = Run(Guest(text)), name
+        self.run.carry_out(schedule)
+        self.events, self.steps = self.run.events, self.run.steps
+        code = [(line.strip(), here) for line, here in zip(text.split("\n"), origins(text))]
+        # The events that set the locals whose values were said.
+        self.said = []
+        self.has_files = len({here and here[0] for line, here in code if line and not line.startswith("#")}) > 1
+
+    def line(self, statement):
+        origin = statement.origin and {"file": statement.origin[0], "line": statement.origin[1]}
+        return self.line_of(origin, statement.begin[0])
+
+    def line_of(self, origin, line):
+        told = origin or {"file": self.file, "line": line}
+        return "%(file)s:%(line)d" % told if self.has_files else "line %(line)d" % told
+
+    def site(self, statement):
+        return "%s: %s" % (self.line(statement), statement.spelled())
+
+    def line_of_step(self, step):
+        return self.line(self.run.carried[step][1])
+
+    def last(self, at, so):
+        """The last event before a place that is so, or None."""
+        return next((self.events[k] for k in range(at - 1, -1, -1) if so(self.events[k])), None)
+
+    def lines(self):
+        at = next((k for k, event in enumerate(self.events) if event.get("stops")), None)
+        if at is None:
+            return []
+        event = self.events[at]
+        loops = ["    the `repeat` in %s ran out of its %d turn%s" % (self.line(one), one.parts[0], "s" * (one.parts[0] != 1))
+                 for one in self.run.threads[event["thread"]].run_out()]
+        reason = self.values(at, event["statement"].parts[0], 4, 8, False) if event["word"] == "assert" else \
+            self.reason(at, event)
+        return reason + loops + self.tests(at)
+
+    def reason(self, at, event):
+        name = event["statement"].parts[-1]
+        if event["word"] == "release":
+            return ["    %s is %d, which is its limit" % (name, MOST_COUNT)]
+        taken = self.run.moved(name, at)
+        if taken is None:
+            return ["    %s is free" % name]
+        if taken["word"] in ("unlock", "wait"):
+            return ["    %s is free since step %d (%s, %s)" % (
+                name, taken["step"], self.run.threads[taken["thread"]].name, self.site(taken["statement"]))]
+        return ["    %s is held by %s (since step %d, %s)" % (
+            name, self.run.threads[taken["thread"]].name, taken["step"], self.line(taken["statement"]))]
+
+    def tests(self, end):
+        """The tests in the cause before a failure, the last one first, each statement once and four at most: what was come
+        to by it, and where its values came from."""
+        causes, lines, told = self.run.causes(), [], []
+        for at in range(end - 1, -1, -1):
+            test = self.events[at]
+            if at not in causes or test["word"] != "if" or any(test["statement"] is one for one in told) or len(told) == 4:
+                continue
+            told.append(test["statement"])
+            thread = self.run.threads[test["thread"]].name
+            led = [k for k in sorted(causes) if k > at and k < len(self.events) and self.is_decided(self.events[k], test)]
+            goal = next((self.events[k] for k in led if self.events[k]["word"] != "if"), None)
+            read = {self.events[k].get("reads") for k in causes if at < k < len(self.events)} - {None}
+            passed = next((k for k, name in enumerate(self.run.written(test), test["place"] + 1) if name in read), None)
+            came = "came here" if end in led else "came to %s," % self.site(goal["statement"]) if goal else \
+                "passed by %s," % self.site(self.run.threads[test["thread"]].code[passed][0])
+            lines.append("    %s%s since `%s` in %s was %s" % (
+                "" if end in led else thread + " ", came, test["statement"].spelled(), self.line(test["statement"]),
+                "true" if test["was"] else "false"))
+            lines += self.values(at, test["statement"].parts[0], 6, 3, True)
+        return lines
+
+    def is_decided(self, event, test):
+        return event["thread"] == test["thread"] and test["place"] < event["place"] < self.run.reach(test)
+
+    def values(self, at, expression, indent, most, is_change_told):
+        """A line for each local of an expression, with its value before the event at a place and where that came from;
+        under one that a `set` made the locals of that; so many at most, and those that were said before not again."""
+        lines, thread, tries = [], self.events[at]["thread"], [0]
+
+        def tell(at, expression, indent):
+            for name in dict.fromkeys(word for word in expression if isinstance(word, str) and word not in OPERATORS):
+                if tries[0] == most:
+                    return
+                setter = self.last(at, lambda e: e["thread"] == thread and e.get("sets") == name)
+                tries[0] += 1
+                if setter and setter["at"] in self.said:
+                    continue
+                self.said += [setter["at"]] if setter else []
+                value, words = (setter["value"], self.origin(setter, is_change_told)) if setter else (0, "from the start")
+                lines.append("%s%s = %d   %s" % (" " * indent, name, value, words))
+                if setter and setter["word"] == "set":
+                    tell(setter["at"], setter["statement"].parts[1], indent + 2)
+        tell(at, expression, indent)
+        return lines
+
+    def itself(self, thread, reader):
+        return self.run.threads[thread].name + (" itself" if thread == reader else "")
+
+    def origin(self, event, is_change_told):
+        """Where the value came from that an event gave a local."""
+        site, step, variable = self.site(event["statement"]), event["step"], event.get("reads")
+        if event["word"] == "set":
+            return "set in " + site
+        words = {"load": "loaded in step %d (%s) from %s" % (step, self.line(event["statement"]), variable),
+                 "add": "read in step %d (%s) from %s" % (step, site, variable),
+                 "cas": "since step %d %s (%s): %s was %d" % (
+                     step, "hit" if event["value"] else "missed", site, variable, self.number(step, "old"))}[event["word"]]
+        writer = self.last(event["at"], lambda e: e.get("writes") == variable)
+        if writer is None:
+            words += ", which nobody had written before"
+        else:
+            since = self.run.changed_before(variable, writer["step"])
+            words += ", which %s set in step %d (%s); before, %s was %d%s" % (
+                self.itself(writer["thread"], event["thread"]), writer["step"], self.site(writer["statement"]), variable,
+                self.number(writer["step"], "old"), self.since(since))
+        change = self.run.changed_from(variable, step)
+        if (is_change_told or writer is None) and change not in (None, step):
+            words += "; %s made it %d in step %d" % (
+                self.itself(self.steps[change]["thread"], event["thread"]), self.number(change, "new"), change)
+        return words
+
+    def changes(self, step):
+        """What the table says that a step changed."""
+        act, name, sets = step["act"], step["object"], step["sets"]
+        if step["stop"] in ("not-held", "sem-full"):
+            words = "FALSE: %s doesn't own %s" % (step["name"], step.get("mutex", name)) if step["stop"] == "not-held" else \
+                "FALSE: its count can't rise"
+        elif act in ("signal", "broadcast"):
+            words = "wakes " + ", ".join(step["woken"]) if step["woken"] else "nobody waits"
+        elif act in ("lock", "retake", "unlock"):
+            words = "%s is free" % name if act == "unlock" else "%s -> %s" % (name, step["name"])
+        elif act == "wait":
+            words = "%s is free; waits for %s" % (step["mutex"], name)
+        else:
+            words = "%s %d (unchanged)" % (name, step["new"]) if step["old"] == step["new"] else \
+                "%s %d -> %d" % (name, step["old"], step["new"])
+        told = [words] * (act != "load")
+        for one in sets:
+            own = (one["line"], one["column"]) == (step["line"], step["column"])
+            place = self.line_of(one.get("from"), one["line"])
+            told.append("%s%s = %d%s" % ("" if own else place + ": ", one["local"], one["value"],
+                                         " from " + name if own and act == "load" else ""))
+        return "; ".join(told + self.lost(step))
+
+    def lost(self, step):
+        """Of a store in the cause, which other thread wrote the variable since the storing one used it last."""
+        at, name = step["step"], step["object"]
+        in_cause = any(self.events[k]["step"] == at for k in self.run.causes() if k < len(self.events))
+        uses = [k for k in range(at) if self.steps[k]["object"] == name and self.steps[k]["thread"] == step["thread"]]
+        if step["act"] != "store" or not in_cause or not uses:
+            return []
+        writes = [e for e in self.events if e.get("writes") == name and uses[-1] < e["step"] < at]
+        return ["%s wrote %s since step %d" % (self.run.threads[e["thread"]].name, name, uses[-1]) for e in writes[-1:]]
+
+    def number(self, step, when):
+        return self.steps[step][when]
+
+    def since(self, step):
+        if step is None:
+            return " from the start"
+        words = " since step %d (%s, %s)" % (step, self.steps[step]["name"], self.line_of_step(step))
+        if self.steps[step]["preempting"]:
+            words += ", where %s was interrupted" % self.steps[step - 1]["name"]
+        return words
 
 
 # ---- programs and schedules that chance seldom makes
@@ -702,6 +1004,16 @@ SHAPES = [
     ("sem a = 1; sem b = 1; thread A { acquire a; acquire b; release b; release a; } "
      "thread B { acquire b; acquire a; release a; release b; }", "0,1"),
     ("sem a = 0; var x; thread A { load r x; if r { release a; } else { store x 2; } } thread B { acquire a; }", "0x2"),
+    # A release that is passed by twice, in two turns; the second test found what was written between.
+    ("var x; sem s = 0; thread A { acquire s; } thread B { repeat 2 { load r x; if r == 1 { release s; } } } "
+     "thread C { store x 2; }", "1,2,1"),
+    # A signal behind a test of a local that is set no more, and one behind a test of what is loaded first.
+    ("var x; mutex m; cond c; thread A { lock m; wait c m; unlock m; } thread B { load r x; lock m; lock m; "
+     "if r { signal c; } load q x; if q { signal c; } }", "0x2,1x2"),
+    # A wake-up that helps nobody: what the sleeper looks at is written by nobody but itself.
+    ("var x = 1; var y = 1; mutex m; cond c; thread A { lock m; repeat 2 { load r x; if r == 0 { leave; } wait c m; } "
+     "store x 0; broadcast c; unlock m; } thread B { lock m; repeat 2 { load r x; if r == 0 { leave; } wait c m; } "
+     "store y 0; broadcast c; unlock m; }", "0x3,1x3"),
     # Signals that find nobody, before the wait, by a statement that is carried out twice.
     ("mutex m; cond c; thread A { lock m; wait c m; unlock m; } thread B { repeat 2 { signal c; } }", "1x2,0x2"),
     # Three are woken at once, in the order in which they came.
@@ -755,6 +1067,23 @@ SHAPES = [
      "repeat 2 { load r reader; set quiet r == 0; if r == 3 { set quiet 1; } if quiet { leave; } } if quiet { "
      "store freed 1; store current 3; store gp 1; repeat 2 { load r reader; set quiet r == 0; if r == 1 { "
      "set quiet 1; } if quiet { leave; } } if quiet { store freed 2; } } }", "0,1x3,0x2,1x5,0"),
+    # A store of the value that is there, before one that counts.
+    ("mutex table_lock; mutex log_lock; var rows = 1; var replica = 1; sem ended = 0; thread Delete { lock table_lock; "
+     "store rows 0; unlock table_lock; lock log_lock; store replica 0; unlock log_lock; release ended; } thread Insert { "
+     "lock table_lock; store rows 1; lock log_lock; store replica 1; unlock log_lock; unlock table_lock; release ended; } "
+     "thread Compare { acquire ended; acquire ended; load master rows; load slave replica; assert slave == master; }",
+     "0x3,1x7,0x4,2x4"),
+    # A reader that changes what it read before another thread does, and a loop that runs out of turns.
+    ("var next_1 = 2; var next_2; thread Put1 { set e 1; set head 0; repeat 3 { if e == 0 { leave; } if e == 1 { "
+     "load next next_1; store next_1 head; } else { load next next_2; store next_2 head; } set head e; set e next; } } "
+     "thread Put2 { set e 1; set head 0; repeat 3 { if e == 0 { leave; } if e == 1 { load next next_1; store next_1 head; "
+     "} else { load next next_2; store next_2 head; } set head e; set e next; } } thread Get { set at 1; repeat 2 { "
+     "if at == 0 { leave; } if at == 1 { load at next_1; } else { load at next_2; } } assert at == 0; }", "0,1x4,0x5,2x2"),
+    # Tests in tests lead to an assertion of one thread, and to what the other one did.
+    ("var strong = 2; var weak = 1; var users; thread GetMut { load w weak; if w == 1 { load s strong; if s == 1 { "
+     "add others users 1; assert others == 0; add o users -1; } } } thread Other { add o weak 1; add o strong -1; "
+     "load s strong; if s > 0 { cas up strong s 2; if up { add others users 1; assert others == 0; add o users -1; } } }",
+     "0,1x2,0,1x3,0,1"),
     # A page that is thrown away between a write fault and the next one.
     ("var pte; var written; thread Write { set want_write 1; repeat 5 { load p pte; set found 0; if p != 0 { "
      "if want_write == 0 { set found 1; } } if found { leave; } if want_write { cas copied pte 0 2; "
@@ -805,6 +1134,8 @@ class Maker:
                 text.append("repeat %d { %s}" % (self.chance.randint(1, 3), self.statements(2, depth + 1, True)))
             elif draw < 0.25 and in_repeat:
                 text.append("leave;")
+            elif draw < 0.29 and depth < 2:
+                text.append(self.spin(depth))
             elif draw < 0.35:
                 text.append("set %s %s;" % (self.pick("r", "q", "left"), self.expression()))
             elif draw < 0.38:
@@ -816,6 +1147,14 @@ class Maker:
                 text.append(blank.join(self.visible()) + self.pick("", "", " ") + ";")
         return "".join(one + self.pick(" ", "  ", "\n    ", " # and\n") for one in text)
 
+    def spin(self, depth):
+        """A loop that a test may end, and maybe what it is to have brought about."""
+        found = self.pick("r == %d" % self.number(), "q", "left != r")
+        inner = self.statements(1, depth + 1, True)
+        return "repeat %d { load %s %s; if %s { leave; } %s}%s" % (
+            self.chance.randint(1, 3), self.pick("r", "q", "left"), self.pick(*self.names["var"]), found, inner,
+            self.pick("", " assert %s;" % found))
+
     def guarded(self, depth, in_repeat):
         """Some statements under a mutex, mostly one that isn't owned yet, maybe after a wait."""
         free = [mutex for mutex in self.names["mutex"] if mutex not in self.owned] or self.names["mutex"]
@@ -826,13 +1165,21 @@ class Maker:
         self.owned.pop()
         return "lock %s; %s%s unlock %s;" % (mutex, waits, inner, mutex)
 
+    def asserted(self):
+        """What a thread may assert in the end, mostly of a variable that some wrote, and rarely before it writes that itself."""
+        if self.chance.random() < 0.5:
+            return ""
+        variable, local = self.pick(*self.names["var"]), self.pick("r", "q", "left")
+        wrote = "store %s %s; " % (variable, self.operand()) if self.chance.random() < 0.4 else ""
+        return "load %s %s; %sassert %s == %d; " % (local, variable, wrote, local, self.number())
+
     def guest(self):
         self.owned = []
         self.names = {"var": ["x", "y", "_v"], "mutex": ["m", "k", "n_"], "cond": ["c", "d"], "sem": ["s", "full"]}
         text = "var x; var y = %d;\nvar _v = -3; mutex m; mutex k;\tmutex n_; cond c; cond d;\nsem s = %d; sem full = %d;\n" % (
             self.number(), self.pick(0, 1, 2), self.pick(0, MOST_COUNT, MOST_COUNT - 1))
         for name in ("A", "B", "Third", "D_4")[:self.pick(1, 2, 2, 3, 3, 4, 4)]:
-            text += "thread %s {%s%s}\n" % (name, self.pick(" ", "\n    "), self.statements(6, 0, False))
+            text += "thread %s {%s%s%s}\n" % (name, self.pick(" ", "\n    "), self.statements(6, 0, False), self.asserted())
         return text if self.chance.random() < 0.7 else self.marked(text)
 
     def marked(self, text):
@@ -917,8 +1264,29 @@ def at_path(value, path):
     return value
 
 
+TITLE = re.compile(r"Who could (\w+) (\w+)$")
+SENTENCE = re.compile(
+    r"  (\w+) (?:would (?P<verb>wait again|go on) if it were woken now(?:: (?P<values>.*))?$|(?P<comes>has yet to|may) come to |"
+    r"passed by (?:(?P<times>\d+) times, the last time (?:in step (?P<step>\d+)|at the start) )?)")
+
+
+def said(text):
+    """The sentences of a text that Run.sentences tells."""
+    told = []
+    for line in text.split("\n"):
+        title, found = TITLE.match(line), SENTENCE.match(line)
+        if title:
+            told.append(title.groups())
+        elif found and told:
+            name, part = found[1], found.groupdict()
+            told.append((name, part["verb"], part["values"] or "") if part["verb"] else
+                        (name, part["comes"]) if part["comes"] else
+                        (name, "passed", int(part["times"] or 1), part["step"] and int(part["step"])))
+    return told
+
+
 class Explanations(Tester):
-    seen = {}
+    seen, told = {}, set()
 
     def compare(self, name, words, want):
         told, status = want
@@ -933,12 +1301,36 @@ class Explanations(Tester):
 
     def explained(self, name, text, schedule):
         self.compare(name, [schedule_text(schedule)], explanation(name, text, schedule, None))
+        self.sentences(name, text, schedule)
+
+    def sentences(self, name, text, schedule):
+        """The sentences of the text are those that the simulator says."""
+        lines = self.run("explain", name, schedule_text(schedule), "--all", "--width", 1000, cwd=ROOT).out.split("\n")
+        table, said = lines.index("") + 1, Sentences(name, text, schedule)
+        rows = [line for line in lines[table + 2:lines.index("", table)] if line[:4].strip().isdigit()]
+        rows = [line[lines[table].index("what changed"):] for at, line in enumerate(rows) if line[:4] not in {
+            other[:4] for other in rows[:at]}]
+        for what, got, want in (("head", lines[1:table - 1], said.lines()),
+                                ("rows", rows, [said.changes(step) for step in said.steps])):
+            self.expect("the %s of explain %s %s" % (what, name, schedule_text(schedule)), got == want,
+                        *("%r, not %r" % pair for pair in zip(got, want) if pair[0] != pair[1]))
+        self.sentences_on_waits(name, text, schedule)
+
+    def sentences_on_waits(self, name, text, schedule):
+        """So is what the text says of those that could end a wait."""
+        run, words = Run(Guest(text)), schedule_text(schedule)
+        run.carry_out(schedule)
+        want = run.sentences()
+        got = said(self.run("explain", name, words, "--width", 1000, cwd=ROOT).out) if want else []
+        self.expect("sentences of %s %s" % (name, words), got == want, repr(got), repr(want))
+        self.told.update(one[1] for one in want if len(one) > 2 or one[1] in ("has yet to", "may"))
 
     def searched(self, name, text):
         """A schedule that a search finds, with the report of that search."""
         report = json.loads(self.run("explore", name, cwd=ROOT).out)
         if report["verdict"] == "bad":
             self.compare(name, [], explanation(name, text, schedule_of(report["schedule"]), report))
+            self.sentences(name, text, schedule_of(report["schedule"]))
         else:
             status = {"clean": 0, "incomplete": 3}[report["verdict"]]
             self.compare(name, [], ({"file": name, "schedule": None, "search": report}, status))
@@ -948,6 +1340,8 @@ class Explanations(Tester):
         for at, values in sorted(self.seen.items()):
             self.expect("%s is always %r, so nothing is seen of it" % (at, values),
                         len(values) > 1 or values == {"an object"} or at in ALIKE)
+        self.expect("each sentence was seen: %r" % self.told,
+                    self.told == {"wait again", "go on", "has yet to", "may", "passed"})
 
     def notices(self, told):
         """The comparison notices each field that is changed, left out or put in."""

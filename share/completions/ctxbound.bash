@@ -14,7 +14,7 @@ _ctxbound() {
     explain) words='--bound --workers --limit --quick --progress --unbounded --steps --all --width --html --json --help' ;;
     check) words='--strict --short --json --deep --remarks --limit --help' ;;
     suite) words='--bound --workers --limit --progress --json --help' ;;
-    verify) words='--workers --limit --help' ;;
+    verify) words='--workers --limit --progress --help' ;;
     prefixes) words='--at-least --unbounded --help' ;;
     join) words='--bound --unbounded --help' ;;
     help)

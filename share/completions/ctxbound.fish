@@ -31,7 +31,7 @@ complete -c ctxbound -n '__fish_seen_subcommand_from explore unbounded explain s
 complete -c ctxbound -n '__fish_seen_subcommand_from explore unbounded explain check suite verify' -l limit -x -d 'Cut the search short after this number of schedules'
 complete -c ctxbound -n '__fish_seen_subcommand_from explore unbounded explain' -l quick -d 'Leave out what comes after a bad schedule'
 complete -c ctxbound -n '__fish_seen_subcommand_from explore unbounded' -l trace -d 'Print the trace of the schedule found'
-complete -c ctxbound -n '__fish_seen_subcommand_from explore unbounded explain suite' -l progress -d 'Tell how far the search is'
+complete -c ctxbound -n '__fish_seen_subcommand_from explore unbounded explain suite verify' -l progress -d 'Tell how far the search is'
 complete -c ctxbound -n '__fish_seen_subcommand_from explain check suite' -l json -d 'Print JSON'
 complete -c ctxbound -n '__fish_seen_subcommand_from explain' -l unbounded -d 'Search without a bound'
 complete -c ctxbound -n '__fish_seen_subcommand_from prefixes' -l unbounded -d 'List those that a search without a bound enters'

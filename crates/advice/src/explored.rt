@@ -47,26 +47,24 @@ struct Shown<'a> {
 }
 
 impl Shown<'_> {
-    // What is said of it, with a note on how to replay the schedule that shows it.
-    fn message(self, alloc: Global) -> Result<Message, AllocError> {
-        let message = Message::new(alloc, self.row.1)?;
+    // Tells what is said of it, with a note on how to replay the schedule that shows it.
+    fn tell(self, told: &mut Message) -> Result<(), AllocError> {
+        told.say(self.row.1)?;
         let Some(path) = self.path else {
-            return Ok(message);
+            return Ok(());
         };
-        let schedule = schedule_text(alloc, path)?;
-        message.with_note(format_args!("replay: {}", text_of(&schedule)))
+        let schedule = schedule_text(told.allocator(), path)?;
+        told.note(format_args!("replay: {}", text_of(&schedule)))
     }
 }
 
 // The remark that this limit was reached before all schedules were explored.
 fn cut_short_remark(alloc: Global, limit: u64) -> Result<Diagnostic, AllocError> {
-    let message = Message::new(
-        alloc,
-        "assertions are told of only where all schedules were gone through",
-    )?;
     let schedules = if limit == 1 { "schedule" } else { "schedules" };
     let headline = format!(in alloc; "remark W21 CutShort after {limit} {schedules}")?;
-    Ok(message.into_diagnostic(Severity::Remark, headline, None))
+    let mut told = Message::new(alloc);
+    told.say("assertions are told of only where all schedules were gone through")?;
+    Ok(told.into_diagnostic(Severity::Remark, headline, None))
 }
 
 // Whether an instruction is an assertion, but no `assert 0;`, by which a guest says that no run is
@@ -90,8 +88,9 @@ impl Compiled<'_> {
         let explored = explore(alloc, self.program, &spins, limit)?;
         let found = self.shown(alloc, &explored, &spins)?;
         for shown in &found {
-            let title = (Severity::Warning, shown.row.0);
-            self.add_diagnostic(all, title, shown.at, shown.message(alloc)?)?;
+            let mut told = Message::new(alloc);
+            shown.tell(&mut told)?;
+            self.add_diagnostic(all, (Severity::Warning, shown.row.0), shown.at, told)?;
         }
         if !explored.is_whole {
             all.push(cut_short_remark(alloc, limit)?)?;

@@ -4,6 +4,7 @@ use crate::compiled::Compiled;
 use guest_code::kinds::{NameKind, kind_of};
 use guest_syntax::place::Pos;
 use guest_syntax::tree::Tree;
+use hints::message::Message;
 use hints::pieces::{START, is_boundary, piece_index_at};
 use lint::uses::Use;
 use lint::warning::{Subject, Warning, WarningKind};
@@ -87,8 +88,9 @@ impl Compiled<'_> {
         let found: Vec<Finding> = warnings.iter().map(|w| self.locate(*w)).collect(alloc)?;
         for finding in &found {
             if self.is_reported(&found, *finding) {
-                let (title, message) = self.warning_message(alloc, finding.warning)?;
-                self.add_diagnostic(all, (Severity::Warning, title), finding.at, message)?;
+                let mut told = Message::new(alloc);
+                let title = self.tell_warning(&mut told, finding.warning)?;
+                self.add_diagnostic(all, (Severity::Warning, title), finding.at, told)?;
             }
         }
         Ok(())

@@ -183,8 +183,7 @@ fn all_diagnostics(
 }
 
 /// The lines to print on standard error of what a check of a text found. Above a diagnostic comes a
-/// row `FILE:LINE:COLUMN:` where a preprocessor's mark tells the file and line that its line comes
-/// from. Fails where memory runs out.
+/// row `FILE:LINE:` where a preprocessor's mark tells the file and line that its line comes from. Fails where memory runs out.
 pub fn advice_text(alloc: Global, text: &[u8], checked: &Checked) -> Result<Vec<u8>, AllocError> {
     let marks = Marks::new(alloc, text)?;
     let mut out = Vec::new(alloc);
@@ -193,7 +192,7 @@ pub fn advice_text(alloc: Global, text: &[u8], checked: &Checked) -> Result<Vec<
             && let Some(origin) = marks.origin(span.at.line)
         {
             put_shown(&mut out, origin.file())?;
-            let place = format!(in alloc; ":{}:{}:\n", origin.line(), span.at.col)?;
+            let place = format!(in alloc; ":{}:\n", origin.line())?;
             out.extend_from_slice(place.as_bytes())?;
         }
         diagnostic.put(&mut out, text)?;

@@ -7,7 +7,7 @@ ghost use Rattle.report.specs.Promises.{IsSearch};
 ghost use Rattle.answering.specs.inner.Searches.{IsSearch-prop};
 
 /// The limit of a search, in schedules, where the command words give none.
-pub const DEFAULT_LIMIT: u64 = 1_000_000;
+pub const DEFAULT_LIMIT: u64 = 20_000_000;
 
 /// How far each search of a text goes, where several may be made of it, and by how many workers.
 #[derive(Clone, Copy, Debug)]
@@ -19,6 +19,8 @@ pub struct Limits {
     pub bound: u32,
     /// The workers of a search, at least 1, at most [`WORKERS`](workers::WORKERS).
     pub workers: u32,
+    /// Whether it is told on standard error how far each search is.
+    pub progress: bool,
     ghost is_bound: { IsSearch (UpTo bound) } by { IsSearch-prop (UpTo bound) },
     ghost some_worker: { 1 ≤ workers },
     ghost few_workers: { workers ≤ WORKERS },

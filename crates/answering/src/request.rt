@@ -106,8 +106,6 @@ pub struct SuiteRequest {
     pub files: Vec<String>,
     pub limits: Limits,
     pub json: bool,
-    /// Whether it is told on standard error how far each search is.
-    pub progress: bool,
 }
 
 /// To say whether the guest program in a file is right.

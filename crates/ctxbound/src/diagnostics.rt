@@ -9,7 +9,7 @@ use text_lines::Marks;
 /// A line for each refusal, warning and remark on a text that was read from this file: a JSON
 /// object if `is_json`, else `FILE:LINE:COLUMN: warning W5 NeverLoaded: MESSAGE`, where a refusal
 /// is an `error`, and what has no place is at line 1, column 1. Where a preprocessor's mark comes
-/// before the place, file and line are those that the mark says. Fails where memory runs out.
+/// before the place, file and line are those that the mark says, and the latter has no column. Fails where memory runs out.
 pub fn diagnostics_text(
     alloc: Global,
     text: &[u8],
@@ -36,7 +36,7 @@ pub fn diagnostics_text(
 
 // The line `FILE:LINE:COLUMN: warning W5 NeverLoaded: MESSAGE` of a diagnostic; a diagnostic that
 // has no place is at line 1, column 1. Where a preprocessor's mark comes before the place, file and
-// line are those that the mark says.
+// line are those that the mark says, without a column: it would be one of another text.
 fn short_line(
     alloc: Global,
     marks: &Marks,
@@ -48,10 +48,14 @@ fn short_line(
         None => (1, 1),
     };
     let place = marks.file_line(file, line).with_name();
+    let column = match marks.origin(line) {
+        Some(_) => String::new(alloc),
+        None => format!(in alloc; ":{column}")?,
+    };
     let severity = diagnostic.severity;
     let (number, name) = diagnostic.code();
     let message = ascii_text(alloc, diagnostic.message.as_slice())?;
-    format!(in alloc; "{place}:{column}: {severity} {number} {name}: {message}")
+    format!(in alloc; "{place}{column}: {severity} {number} {name}: {message}")
 }
 
 // The members of the JSON object of a diagnostic on the file of this name: those of its message,

@@ -16,8 +16,8 @@ pub struct Json;
 #[derive(Clone, Copy, Debug)]
 pub struct Html;
 
-/// The columns of a line of the text on a page, which wraps lines that are too wide for its window.
-const PAGE_WIDTH: usize = 100;
+/// The columns of a line of the text on a page, where each is a paragraph: as many as there may be.
+const PAGE_WIDTH: usize = 1000;
 
 impl Render for Json {
     // The JSON of the explanation, with the report of the search where a search found the schedule;

@@ -90,11 +90,11 @@ fn search_file<H: Host + Files + Input, E: Write>(
     let file = String::from_str(alloc, guest.name.as_str())?;
     let outcome = match guest.read(rt) {
         Ok(text) => {
-            if request.progress {
+            if request.limits.progress {
                 let _ = writeln!(err, "{file}:");
             }
             let marks = Marks::new(alloc, text.as_slice())?;
-            let entry = Entry::of_text(rt, file, text.as_slice(), request.limits, request.progress);
+            let entry = Entry::of_text(rt, file, text.as_slice(), request.limits);
             return Ok((entry, marks));
         }
         Err(error) if error.kind() == ErrorKind::OutOfMemory => {

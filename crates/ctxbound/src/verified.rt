@@ -2,6 +2,7 @@
 
 use advice::{Checked, Diagnostic, check};
 use answering::{Fault, Host, Printed, VerifyRequest};
+use explained::run_out_text;
 use guest_syntax::pieces::Piece;
 use hints::pieces::pieces;
 use replay::schedule_text;
@@ -9,8 +10,11 @@ use semantics::view::Kind;
 use std::alloc::{AllocError, Global};
 use std::fmt::Write;
 use std::io;
-use text_lines::Marks;
+use text_lines::{Count, Marks};
 use verify::{BadSchedule, Correctness, Preemptions, verify_text};
+
+/// Up to how many schedules it is looked for caveats to the answer that a program is right.
+const CAVEAT_DEPTH: u64 = 1_000_000;
 
 /// What is said at the end where the searches leave open whether a program is right.
 const HIGHER_LIMIT: &str = "A higher --limit says more.";
@@ -32,7 +36,10 @@ pub fn verify_guest<H: Host, W: io::Write>(
     let file = request.file.as_str();
     let told = match &answer {
         Correctness::Right => right_text(alloc, request, text)?,
-        Correctness::Bad { bad, is_fewest } => bad_text(alloc, file, bad, *is_fewest)?,
+        Correctness::Bad { bad, is_fewest } => {
+            let run_out = run_out_text(alloc, text, file, bad.steps.as_slice())?;
+            bad_text(alloc, file, bad, *is_fewest, run_out.as_str())?
+        }
         Correctness::Undecided { below } => undecided_text(alloc, file, *below)?,
     };
     Ok(Printed {
@@ -42,22 +49,26 @@ pub fn verify_guest<H: Host, W: io::Write>(
 }
 
 // The text of the answer that a program is right, with its caveats: a line for each warning of
-// `CAVEATS` that a check of its schedules, up to the limit, finds, and for each that the check may
-// have missed since it was cut short there. A warning's place is its line and column, with the file
-// where a preprocessor's mark names one.
+// `CAVEATS` that a check of its schedules, up to `CAVEAT_DEPTH` of them and no more than the limit,
+// finds, and for each that the check may have missed since it was cut short there. A warning's place
+// is its line and column, or the file and line that a preprocessor's mark names.
 fn right_text(alloc: Global, request: &VerifyRequest, text: &[u8]) -> Result<String, AllocError> {
     let file = request.file.as_str();
     let mut told = format!(in alloc; "RIGHT: no schedule of {file} fails or gets stuck.\n")?;
+    let depth = request.limits.limit.min(CAVEAT_DEPTH);
     let pieces = pieces(alloc, text)?;
     let marks = Marks::new(alloc, text)?;
-    if let Checked::Sound(all) = check(alloc, text, Some(request.limits.limit))? {
+    if let Checked::Sound(all) = check(alloc, text, Some(depth))? {
         for diagnostic in &all {
             let (line, column) = diagnostic.place();
             let at = match marks.origin(line) {
-                Some(_) => format!(in alloc; "{}:{column}", marks.file_line("", line).with_name())?,
+                Some(_) => format!(in alloc; "{}", marks.file_line("", line).with_name())?,
                 None => format!(in alloc; "{line}:{column}")?,
             };
-            put_caveats(&mut told, alloc, diagnostic, at.as_str(), &pieces)?;
+            put_caveat(&mut told, alloc, diagnostic, at.as_str())?;
+            if diagnostic.code().0 == "W21" {
+                put_missed_caveats(&mut told, depth, &pieces)?;
+            }
         }
     }
     Ok(told)
@@ -70,23 +81,33 @@ const CAVEATS: [(&str, &[u8], &str); 2] = [
     ("W13", b"signal", "signals for which several threads wait"),
 ];
 
-// Adds to `told`, the answer that a program is right, the caveats that a diagnostic at the place
-// `at` makes: its message, where it is a warning of `CAVEATS`; where it is `W21`, which says that
-// the check was cut short, a line for each of `CAVEATS` whose word is among the text's `pieces`.
-fn put_caveats(
+// Adds to `told`, the answer that a program is right, the message of a diagnostic at the place `at`,
+// where it is a warning of `CAVEATS`.
+fn put_caveat(
     told: &mut String,
     alloc: Global,
     diagnostic: &Diagnostic,
     at: &str,
-    pieces: &[Piece<'_>],
 ) -> Result<(), AllocError> {
     let (number, name) = diagnostic.code();
-    for (caveat, word, sought) in CAVEATS {
-        if number == caveat {
-            let message = String::from_utf8_lossy(alloc, diagnostic.message.as_slice())?;
-            writeln!(told, "But {number} {name} at {at}: {message}")?;
-        } else if number == "W21" && pieces.iter().any(|piece| piece.text == word) {
-            writeln!(told, "But {sought} were looked for up to the limit alone.")?;
+    if CAVEATS.iter().any(|caveat| caveat.0 == number) {
+        let message = String::from_utf8_lossy(alloc, diagnostic.message.as_slice())?;
+        writeln!(told, "But {number} {name} at {at}: {message}")?;
+    }
+    Ok(())
+}
+
+// Adds to `told` a line for each of `CAVEATS` whose word is among the text's `pieces`, where the
+// check was cut short after `depth` schedules.
+fn put_missed_caveats(
+    told: &mut String,
+    depth: u64,
+    pieces: &[Piece<'_>],
+) -> Result<(), AllocError> {
+    for (_, word, sought) in CAVEATS {
+        if pieces.iter().any(|piece| piece.text == word) {
+            let tried = Count(depth as usize, "schedule");
+            writeln!(told, "But {sought} were looked for in {tried} alone.")?;
         }
     }
     Ok(())
@@ -94,12 +115,14 @@ fn put_caveats(
 
 // The text of the answer that the schedule `bad` of the program in this file is bad, with the
 // command that explains it. Where it has preemptions, the text says whether it is known
-// (`is_fewest`) that none with fewer is bad. No bad schedule is `Done`.
+// (`is_fewest`) that none with fewer is bad. `run_out` has lines that say which loops ran out of
+// turns. No bad schedule is `Done`.
 fn bad_text(
     alloc: Global,
     file: &str,
     bad: &BadSchedule,
     is_fewest: bool,
+    run_out: &str,
 ) -> Result<String, AllocError> {
     let ends = match bad.kind {
         Kind::Stuck => "gets stuck",
@@ -115,7 +138,7 @@ fn bad_text(
     let steps = schedule_text(alloc, bad.steps.as_slice())?;
     let steps = String::from_utf8_lossy(alloc, steps.as_slice())?;
     format!(in alloc;
-        "BAD: a schedule of {file} with {count} {ends}{others}.\nSee why: ctxbound explain {word} {steps}\n"
+        "BAD: a schedule of {file} with {count} {ends}{others}.\n{run_out}See why: ctxbound explain {word} {steps}\n"
     )
 }
 

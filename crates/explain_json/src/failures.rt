@@ -1,9 +1,10 @@
-//! The threads that stopped, and where the values of a failed assertion came from.
+//! The threads that stopped, where the values of a failed assertion came from, and the tests in the
+//! cause.
 
 use crate::facts::Facts;
 use crate::words::stop_reason_word;
 use crate::writer::{Writer, Written};
-use causes::Event;
+use causes::{Event, next_change, unchanged_since};
 use explain::Object;
 use guest_code::program::{Expression, Instruction, Value};
 use semantics::state::Stop;
@@ -32,6 +33,29 @@ impl Facts<'_> {
         }
         Ok(origins)
     }
+
+    // The variable that an event reads, writes or may write, and the step of the event; `None`
+    // where it uses no variable.
+    fn variable_use(&self, event: &Event) -> Option<(usize, usize)> {
+        event
+            .variable_read()
+            .or(event.variable_written())
+            .zip(event.step)
+    }
+
+    // The step since which the variable that an event uses was as the event found it; `None` where
+    // it was so from the start, or the event uses none.
+    fn unchanged_since(&self, event: &Event) -> Option<usize> {
+        let (variable, step) = self.variable_use(event)?;
+        unchanged_since(self.explanation.steps(), step, variable)
+    }
+
+    // The first step, from that of an event on, that changed the variable which the event uses;
+    // `None` where none did, or the event uses none.
+    fn next_change(&self, event: &Event) -> Option<usize> {
+        let (variable, step) = self.variable_use(event)?;
+        next_change(self.explanation.steps(), step, variable)
+    }
 }
 
 impl<S: Serializer> Writer<'_, S> {
@@ -48,8 +72,9 @@ impl<S: Serializer> Writer<'_, S> {
     }
 
     // Writes an object for the thread that stopped in an event, the one at place `at` of the run:
-    // where, why and after how many preemptions it stopped; of an `unlock` or a `wait` also the
-    // mutex and who owned it, of an assertion the values of its locals.
+    // where, why and after how many preemptions it stopped, and which loops ran out of turns before;
+    // of an `unlock` or a `wait` also the mutex, who owned it and since when, of an assertion the
+    // values of its locals.
     fn put_failure(&mut self, at: usize, event: &Event, stop: Stop) -> Written<S> {
         let facts = self.facts;
         let statement = facts.statement(event.thread, event.instruction);
@@ -58,6 +83,8 @@ impl<S: Serializer> Writer<'_, S> {
             _ => None,
         };
         let taken = mutex.and_then(|m| facts.causes.owned_since(at, m));
+        let since = mutex.and_then(|m| facts.causes.last_owner_change(at, m));
+        let since = since.and_then(|place| facts.causes.events().get(place)?.step);
         let owner = taken.and_then(|place| facts.causes.events().get(place));
         let ran = event.step.map_or(0, |step| step.saturating_add(1));
         let steps = facts.explanation.steps().iter().take(ran);
@@ -68,12 +95,31 @@ impl<S: Serializer> Writer<'_, S> {
         self.put("name", facts.thread_name(event.thread))?;
         self.put("owner", owner.map(|owner| facts.thread_name(owner.thread)))?;
         self.put("preemptions", preempting.count())?;
+        self.put_repeats(at)?;
+        self.put("since", since)?;
         self.put("step", event.step)?;
         self.put("stop", stop_reason_word(stop))?;
         self.put_statement_text(statement)?;
         self.put("thread", event.thread)?;
         self.put_assertion_values(at, event)?;
         self.out.end_map()
+    }
+
+    // Writes the list `ran_out`: each `repeat` of which a thread made all turns before it stopped in
+    // the event at place `at`, and which its `leave` could have ended.
+    fn put_repeats(&mut self, at: usize) -> Written<S> {
+        let facts = self.facts;
+        let repeats = facts.causes.repeats_run_out(facts.alloc, facts.source, at);
+        let repeats = self.convert_alloc_error(repeats)?;
+        self.begin_list("ran_out")?;
+        for repeat in &repeats {
+            self.out.begin_map(None)?;
+            self.put_extent_from(Some(repeat.at))?;
+            self.put("line", repeat.at.line)?;
+            self.put("turns", repeat.turns)?;
+            self.out.end_map()?;
+        }
+        self.out.end_seq()
     }
 
     // Writes the list `values`: the locals of an assertion, the event at place `at` of the run,
@@ -98,8 +144,30 @@ impl<S: Serializer> Writer<'_, S> {
         self.out.end_seq()
     }
 
+    /// Writes the list `tests`: an object for each test in the cause, in the order in which they were
+    /// carried out, with what came of it.
+    pub fn put_tests(&mut self) -> Written<S> {
+        let facts = self.facts;
+        self.begin_list("tests")?;
+        for (event, mark) in facts.causes.events().iter().zip(facts.causes.marks()) {
+            if *mark && matches!(event.statement, Instruction::SkipIfZero(_, _)) {
+                let statement = facts.statement(event.thread, event.instruction);
+                self.out.begin_map(None)?;
+                self.put_place(statement)?;
+                self.put("name", facts.thread_name(event.thread))?;
+                self.put("step", event.step)?;
+                self.put_statement_text(statement)?;
+                self.put("was", event.value() != 0)?;
+                self.out.end_map()?;
+            }
+        }
+        self.out.end_seq()
+    }
+
     // Writes the list `origins`: the statements from which a thread's local has its value before
-    // the event at place `at` of the run, in the order in which they were carried out.
+    // the event at place `at` of the run, in the order in which they were carried out. Of one that
+    // uses a variable, also since which step that was as it found it, and which step changed it
+    // next.
     fn put_origins(&mut self, at: usize, thread: u8, local: usize) -> Written<S> {
         let facts = self.facts;
         let origins = self.convert_alloc_error(facts.origins(at, thread, local))?;
@@ -108,8 +176,10 @@ impl<S: Serializer> Writer<'_, S> {
         for event in origins.iter().filter_map(|at| events.get(*at)) {
             let statement = facts.statement(event.thread, event.instruction);
             self.out.begin_map(None)?;
+            self.put("changed", facts.next_change(event))?;
             self.put_place(statement)?;
             self.put("name", facts.thread_name(event.thread))?;
+            self.put("since", facts.unchanged_since(event))?;
             self.put("step", event.step)?;
             self.put_statement_text(statement)?;
             self.out.end_map()?;

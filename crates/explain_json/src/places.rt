@@ -113,8 +113,13 @@ impl<S: Serializer> Writer<'_, S> {
     /// Writes the `column` at which a statement begins and its `end`, null at the end of a thread's
     /// code, and, where a preprocessor's mark comes before it, the line of a file it comes `from`.
     pub fn put_extent(&mut self, statement: Statement<'_>) -> Written<S> {
+        self.put_extent_from(self.facts.statement_start(statement))
+    }
+
+    /// Writes the `column`, `end` and `from` of what begins at a place of the text, as
+    /// [`Writer::put_extent`] does of a statement.
+    pub fn put_extent_from(&mut self, begin: Option<Pos>) -> Written<S> {
         let facts = self.facts;
-        let begin = facts.statement_start(statement);
         self.put("column", begin.map(|begin| begin.col))?;
         let end = begin.and_then(|begin| facts.ends.get(&(begin.line, begin.col)));
         self.put("end", end)?;

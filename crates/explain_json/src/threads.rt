@@ -4,18 +4,21 @@ use crate::facts::Facts;
 use crate::objects::ByName;
 use crate::words::{thread_status_word, wait_reason_word};
 use crate::writer::{Writer, Written};
-use explain::{Statement, ThreadState};
+use explain::{Object, Reason, Statement, ThreadState};
 use serde::Serializer;
 use std::alloc::AllocError;
-use std::collections::BTreeMap;
+use std::collections::{BTreeMap, BTreeSet};
 use waits::{Fate, Wait};
 
-/// A statement that could end a wait: whether its thread may still come to it, and the places of
-/// the steps that carried it out.
+/// A statement that could end a wait: whether its thread comes to it if it goes on, or may come to
+/// it, the places of the steps that carried it out, and the jumps over it by their places in the
+/// run.
 #[derive(Drop)]
 struct UnblockingStatement<'a> {
     statement: Statement<'a>,
     ahead: bool,
+    perhaps: bool,
+    passed: BTreeSet<usize>,
     taken: Vec<usize>,
 }
 
@@ -33,9 +36,17 @@ impl Facts<'_> {
         locals.collect(self.alloc)
     }
 
+    // The names of the variables of these numbers, in the same order.
+    fn variable_names(&self, variables: &[usize]) -> Result<Vec<&str>, AllocError> {
+        let names = variables
+            .iter()
+            .map(|x| self.object_name(Object::Variable(*x)));
+        names.collect(self.alloc)
+    }
+
     // The statements that could end a wait, by thread, line and column. A statement in a `repeat`
     // is one, though the thread's code has it several times: it is ahead where one of these is, and
-    // has the steps of all. A statement that has no place in the text is left out.
+    // has the steps and the jumps of all. A statement that has no place in the text is left out.
     fn unblocking_statements(
         &self,
         wait: &Wait,
@@ -47,12 +58,18 @@ impl Facts<'_> {
                 let entry = known.or_insert(UnblockingStatement {
                     statement: self.statement(statement.thread, statement.instruction),
                     ahead: false,
+                    perhaps: false,
+                    passed: BTreeSet::new(self.alloc),
                     taken: Vec::new(self.alloc),
                 });
                 match statement.fate {
                     Fate::Taken(step) => entry.taken.push(step)?,
                     Fate::Ahead => entry.ahead = true,
-                    Fate::PassedBy => {}
+                    Fate::Perhaps => entry.perhaps = true,
+                    Fate::OutOfReach => {
+                        let (thread, at) = (statement.thread, statement.instruction);
+                        entry.passed.extend(self.causes.jump_over(thread, at))?;
+                    }
                 }
             }
         }
@@ -77,9 +94,9 @@ impl<S: Serializer> Writer<'_, S> {
         self.out.end_seq()
     }
 
-    // Writes `waits`: what a thread waits for, of a mutex who owns it and since which step, the
-    // threads that it waits for, and the statements that could end the wait. Null where `wait` is
-    // `None`.
+    // Writes `waits`: what a thread waits for, of a mutex who owns it and since which step, of a
+    // condition what the thread would look at if it were woken, the threads that it waits for, and
+    // the statements that could end the wait. Null where `wait` is `None`.
     fn put_wait(&mut self, wait: Option<&Wait>) -> Written<S> {
         let facts = self.facts;
         self.out.key("waits")?;
@@ -90,7 +107,15 @@ impl<S: Serializer> Writer<'_, S> {
         let holder = mutex.and_then(|m| facts.explanation.holder(m));
         self.out.begin_map(None)?;
         self.put("act", wait_reason_word(wait.reason))?;
+        let look = match wait.reason {
+            Reason::Signal(_) => Some(&wait.look),
+            _ => None,
+        };
+        self.put_some("again", look.map(|look| look.sleeps))?;
         self.put_some("holder", holder.map(|h| facts.thread_name(h.thread)))?;
+        if let Some(look) = look {
+            self.put_allocated("loads", facts.variable_names(look.variables.as_slice()))?;
+        }
         self.put("object", facts.object_name(wait.reason.object()))?;
         self.put_allocated("on", facts.thread_names_in(wait.on))?;
         self.put_some("since", holder.map(|holder| holder.since))?;
@@ -99,20 +124,38 @@ impl<S: Serializer> Writer<'_, S> {
     }
 
     // Writes the list `statements`: those that could end a wait, each with its thread, its place,
-    // whether the thread may still come to it, and the steps that carried it out.
+    // whether the thread comes to it, and the steps in which it was passed by, null for
+    // one before the first step, and that carried it out.
     fn put_unblocking_statements(&mut self, wait: &Wait) -> Written<S> {
         let facts = self.facts;
         let statements = self.convert_alloc_error(facts.unblocking_statements(wait))?;
         self.begin_list("statements")?;
         for found in statements.values() {
             self.out.begin_map(None)?;
-            self.put("ahead", found.ahead)?;
+            match found.perhaps && !found.ahead {
+                true => self.put("ahead", "perhaps")?,
+                false => self.put("ahead", found.ahead)?,
+            }
             self.put_place(found.statement)?;
             self.put("name", facts.thread_name(found.statement.thread))?;
+            self.put_passing_steps(&found.passed)?;
             self.put("taken", &found.taken)?;
             self.put_statement_text(found.statement)?;
             self.out.end_map()?;
         }
         self.out.end_seq()
+    }
+
+    // Writes the list `passed`: of these jumps, which are places in the run, the steps to which
+    // they belong.
+    fn put_passing_steps(&mut self, jumps: &BTreeSet<usize>) -> Written<S> {
+        let events = self.facts.causes.events();
+        let steps = jumps
+            .iter()
+            .map(|at| events.get(*at).and_then(|event| event.step));
+        self.put_allocated(
+            "passed",
+            steps.collect::<Vec<Option<usize>>>(self.facts.alloc),
+        )
     }
 }

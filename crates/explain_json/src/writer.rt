@@ -93,6 +93,7 @@ impl<S: Serializer> Writer<'_, S> {
         self.put("search", &facts.search)?;
         self.put_some("source", facts.why.map(|_| name_text(facts.source.text)))?;
         self.put_steps()?;
+        self.put_tests()?;
         self.put_threads()?;
         self.put_some("why", facts.why)?;
         self.out.end_map()

@@ -26,10 +26,11 @@ pub const PAGE_BEGIN: &str = r##"<title>ctxbound</title>
 * { box-sizing: border-box; }
 body { margin: 0; font: 14px/1.45 system-ui, sans-serif; color: var(--ink); background: var(--back); }
 header { padding: 12px 16px; background: var(--paper); border-bottom: 1px solid var(--line); }
-h1 { margin: 0; font-size: 17px; overflow-wrap: anywhere; }
+h1 { margin: 0; font-size: 17px; overflow-wrap: break-word; }
 h2 { margin: 0 0 6px; font-size: 13px; color: var(--soft); }
-#summary { margin: 4px 0 0; overflow-wrap: anywhere; } .bad { color: var(--bad); font-weight: 600; }
-#why { margin: 8px 0 0; font: 12px/1.5 ui-monospace, monospace; white-space: pre-wrap; overflow-wrap: anywhere; }
+#summary { margin: 4px 0 8px; overflow-wrap: break-word; } .bad { color: var(--bad); font-weight: 600; }
+#why p { margin: 2px 0 0; padding-left: 1em; text-indent: -1em; overflow-wrap: break-word; }
+#why a { color: inherit; text-decoration-color: var(--soft); } #why a.thread { font-weight: 600; }
 #replay { display: flex; gap: 8px; align-items: start; margin: 8px 0 0; }
 #command { font: 12px/1.5 ui-monospace, monospace; overflow-wrap: anywhere; }
 main { display: grid; grid-template-columns: minmax(240px, 2fr) minmax(0, 3fr); gap: 12px; padding: 12px 16px;
@@ -80,7 +81,7 @@ td { padding: 1px 10px 1px 0; vertical-align: top; }
 </style>
 </head>
 <body>
-<header><h1 id="title"></h1><p id="summary"></p><pre id="why"></pre>
+<header><h1 id="title"></h1><p id="summary"></p><div id="why"></div>
 <div id="replay"><code id="command"></code><button id="copy" type="button">Copy</button></div></header>
 <main>
 <section><h2>Source</h2><div id="source" tabindex="0"></div></section>
@@ -159,8 +160,13 @@ function told(s) {
   return from;
 }
 const label = (s) => told(s) + (s.stop === null ? "" : "  FAILED: " + s.stop);
-const row = 22, left = 60, lanes = [];
-const xOf = (t) => lanes[t], yOf = (k) => k * row + row / 2;
+// The steps that have a row: those up to a failure, and later ones that are in the cause.
+const failure = data.failures.length ? data.failures[0] : null;
+const ran = failure === null ? steps.length : failure.step === null ? 0 : failure.step + 1;
+const rows = steps.map((s, k) => k).filter((k) => k < ran || steps[k].cause);
+const row = 22, left = 60, lanes = [], places = [];
+rows.forEach((k, place) => { places[k] = place; });
+const xOf = (t) => lanes[t], yOf = (k) => places[k] * row + row / 2;
 let wide = left;
 // Where a step read what another thread wrote, or a thread took its mutex again after it was woken.
 function arrows() {
@@ -172,16 +178,16 @@ function arrows() {
     if (["store", "add"].includes(s.act) || (s.act === "cas" && String(s.sets[0].value) === "1")) wrote[s.object] = k;
     s.woken.forEach((n) => { called[n] = k; });
   });
-  return found;
+  return found.filter(([from, to]) => from in places && to in places);
 }
 function setLanes() {
   const most = names.map((n) => n.length);
-  steps.forEach((s) => { most[s.thread] = Math.max(most[s.thread], label(s).length); });
+  rows.map((k) => steps[k]).forEach((s) => { most[s.thread] = Math.max(most[s.thread], label(s).length); });
   names.forEach((n, t) => { lanes[t] = wide + 14; wide += 34 + 6.8 * most[t]; });
 }
 function drawLanes() {
   setLanes();
-  const tall = steps.length * row + 8;
+  const tall = rows.length * row + 8;
   const heads = draw(byId("lanes"), "svg",
     { width: wide, height: 24, viewBox: "0 0 " + wide + " 24", id: "names", "aria-hidden": "true" });
   const svg = draw(byId("lanes"), "svg",
@@ -197,24 +203,26 @@ function drawLanes() {
   const stripe = (m, to) => {
     const [t, from] = owned[m];
     draw(svg, "rect", { x: xOf(t) - 11 - 5 * (data.opening.mutexes.indexOf(m) % 3), y: yOf(from), width: 4,
-      height: Math.max(4, yOf(to) - yOf(from)), class: "held" });
+      height: Math.max(4, to - yOf(from)), class: "held" });
     delete owned[m];
   };
-  steps.forEach((s, k) => {
+  rows.forEach((k) => {
+    const s = steps[k];
     for (const m of data.opening.mutexes) {
       if (!(m in s.after)) continue;
       if (s.after[m] === s.name && !(m in owned)) owned[m] = [s.thread, k];
-      if (s.after[m] === null && m in owned) stripe(m, k);
+      if (s.after[m] === null && m in owned) stripe(m, yOf(k));
     }
   });
-  Object.keys(owned).forEach((m) => stripe(m, steps.length - 0.5));
+  Object.keys(owned).forEach((m) => stripe(m, rows.length * row));
   arrows().forEach(([from, to]) => {
     const x = xOf(steps[from].thread), y = yOf(from), v = xOf(steps[to].thread), w = yOf(to),
       bend = Math.min(60, 10 + (w - y) / 3);
     draw(svg, "path", { d: "M" + (x + 3) + " " + (y + 4) + "C" + (x + 3) + " " + (y + bend) + " " + (v + 1) + " "
       + (w - bend) + " " + (v + 1) + " " + (w - 5), class: "arrow", "marker-end": "url(#head)" });
   });
-  steps.forEach((s, k) => {
+  rows.forEach((k, place) => {
+    const s = steps[k];
     const group = draw(svg, "g", { class: "step" + (s.cause ? " cause" : ""), id: "step" + k });
     const top = yOf(k) - row / 2 - 2;
     if (s.preempting) draw(group, "rect", { x: 0, y: top, width: wide, height: 4, class: "interruption" });
@@ -224,7 +232,7 @@ function drawLanes() {
       { cx: xOf(s.thread), cy: yOf(k), r: 4, style: "fill:" + (s.stop === null ? colour(s.thread) : "var(--bad)") });
     draw(group, "text", { x: xOf(s.thread) + 9, y: yOf(k) + 4, class: s.stop === null ? "label" : "label failed" },
       label(s));
-    group.addEventListener("click", () => show(k + 1));
+    group.addEventListener("click", () => show(place + 1));
   });
   const legend = byId("legend");
   const item = (sign, text, name) => {
@@ -232,9 +240,10 @@ function drawLanes() {
     e.append(make("b", sign, name), " " + text);
     legend.append(e, " ");
   };
-  if (steps.some((s) => s.cause)) item("\u25b8", "in the cause");
-  if (steps.some((s) => s.preempting)) item("\u2501", "a thread is interrupted");
-  if (steps.some((s) => s.stop !== null)) item("\u25cf", "a thread fails");
+  const shown = rows.map((k) => steps[k]);
+  if (shown.some((s) => s.cause)) item("\u25b8", "in the cause");
+  if (shown.some((s) => s.preempting)) item("\u2501", "a thread is interrupted");
+  if (shown.some((s) => s.stop !== null)) item("\u25cf", "a thread fails");
   if (arrows().length) item("\u2506", "where a value or a wake-up came from", "soft");
   if (data.opening.mutexes.length) item("\u258c", "a mutex is held", "grey");
 }
@@ -329,7 +338,7 @@ function drawGraph() {
     { width: width, height: side, viewBox: "0 0 " + width + " " + side, role: "img",
     "aria-label": edges.map(([t, u, object]) => names[t] + " waits for " + object + " and " + names[u]).join("; ") });
   tip(svg, "edgetip", "edgetip"); tip(svg, "circletip", "circletip");
-  const places = [];
+  const labels = [];
   edges.forEach(([t, u, object]) => {
     const red = data.circles.some((c) => c.includes(names[t]) && c.includes(names[u])), [x, y] = at(t), [v, w] = at(u);
     const out = [Math.cos(angle(t)), Math.sin(angle(t))], d = Math.hypot(v - x, w - y) || 1,
@@ -342,10 +351,10 @@ function drawGraph() {
         + (w + 13 * (bend[1] - w) / to);
     draw(svg, "path",
       { d: path, class: red ? "edge circle" : "edge", "marker-end": red ? "url(#circletip)" : "url(#edgetip)" });
-    places.push([t === u ? x - 45 * out[0] : (3 * x + 6 * bend[0] + v) / 10,
+    labels.push([t === u ? x - 45 * out[0] : (3 * x + 6 * bend[0] + v) / 10,
       t === u ? y - 45 * out[1] + 20 : (3 * y + 6 * bend[1] + w) / 10, object, red]);
   });
-  places.forEach(([x, y, object, red]) => draw(svg, "text",
+  labels.forEach(([x, y, object, red]) => draw(svg, "text",
     { x: x, y: y, "text-anchor": "middle", class: red ? "halo failed" : "halo soft" }, object));
   there.forEach((t) => {
     const [x, y] = at(t), c = Math.cos(angle(t)), anchor = c > 0.3 ? "start" : c < -0.3 ? "end" : "middle";
@@ -377,12 +386,13 @@ function showEnds() {
     kinds.append(tr);
   });
 }
-function show(count) {
-  const s = stateAfter(count), step = count > 0 ? steps[count - 1] : null;
+// Shows the state after the step in the row at this place, counted from 1; 0 is the start.
+function show(place) {
+  const count = place > 0 ? rows[place - 1] + 1 : 0, s = stateAfter(count), step = count > 0 ? steps[count - 1] : null;
   const at = step !== null && step.from ? " (" + step.from.file + ":" + step.from.line + ")" : "";
   const words = step === null ? "at the start"
     : "after step " + step.step + " of 0 to " + (steps.length - 1) + ": " + step.name + " " + label(step) + at;
-  byId("slider").value = count;
+  byId("slider").value = place;
   byId("slider").setAttribute("aria-valuetext", words);
   byId("place").textContent = words;
   byId("chosen").setAttribute("y", step === null ? -row : yOf(count - 1) - row / 2);
@@ -391,29 +401,49 @@ function show(count) {
   showSource(s, count); showState(s, count);
 }
 window.addEventListener("resize", () => show(chosen()));
-const chosen = () => Number(byId("slider").value), move = (to) => show(Math.max(0, Math.min(steps.length, to)));
+const chosen = () => Number(byId("slider").value), move = (to) => show(Math.max(0, Math.min(rows.length, to)));
 document.title = data.file + " - ctxbound";
 byId("title").textContent = data.file;
-const failure = data.failures.length ? data.failures[0] : null;
-const kind = failure !== null ? "failed" : data.kind !== null ? data.kind
-  : data.refused !== null ? "the schedule can't go on" : "not complete";
-const ran = failure === null ? steps.length : failure.step === null ? 0 : failure.step + 1;
-byId("summary").append(make("span", kind, kind === "done" || kind === "not complete" ? "" : "bad"),
-  " after " + few(ran, "step") + " with "
-  + few(failure === null ? data.preemptions : failure.preemptions, "preemption")
-  + (data.refused === null || failure === null && data.kind === null ? "" : "; then the schedule can't go on"));
-const cut = data.why.lastIndexOf("Replay: "), replay = data.why.slice(cut + 8).trim();
-byId("why").textContent = data.why.slice(0, cut).trim();
+// The words on top: the first line says how the schedule ends, the last one has the command, and each line between them
+// a part of why, further in where it is a part of the line before it. Threads and steps lead to their rows.
+const words = data.why.trimEnd().split("\n"), replay = words.pop().slice("Replay: ".length);
+function showEnding(head) {
+  const ending = /: (FAILED|STUCK|DONE|REFUSED|NOT COMPLETE)\b/.exec(head), from = head.slice(0, ending.index);
+  const line = from.startsWith(data.file + ":") ? " in line " + from.slice(data.file.length + 1) : " in " + from;
+  byId("summary").append(make("span", ending[1], ["DONE", "NOT COMPLETE"].includes(ending[1]) ? "" : "bad"),
+    (ending[1] === "FAILED" ? line : "") + spaced(head.slice(ending.index + ending[0].length)));
+}
+const spaced = (text) => text.replace(/ {2,}/g, "\u2003");
+const linked = new RegExp("\\bstep (\\d+)|\\b(" + names.join("|") + ")\\b", "g");
+function paragraph(line) {
+  const e = make("p"), text = spaced(line.trim());
+  let at = 0;
+  e.style.marginLeft = (line.length - line.trimStart().length) / 2 + "em";
+  for (const found of text.matchAll(linked)) {
+    const t = names.indexOf(found[2]), k = rows.findLast((j) => t < 0 ? j === Number(found[1]) : steps[j].thread === t);
+    if (k === undefined) continue;
+    const part = make("a", found[0], t < 0 ? "" : "thread");
+    part.href = "#step" + k;
+    if (t >= 0) part.style.color = colour(t);
+    part.addEventListener("click", (e) => { e.preventDefault(); show(places[k] + 1); });
+    e.append(text.slice(at, found.index), part);
+    at = found.index + found[0].length;
+  }
+  e.append(text.slice(at));
+  return e;
+}
+showEnding(words[0]);
+byId("why").append(...words.slice(1).filter((line) => line !== "").map(paragraph));
 byId("command").textContent = replay;
 byId("copy").addEventListener("click",
   () => navigator.clipboard.writeText(replay).then(() => { byId("copy").textContent = "Copied"; }));
-byId("slider").max = steps.length;
+byId("slider").max = rows.length;
 byId("slider").addEventListener("input", (e) => show(Number(e.target.value)));
 byId("back").addEventListener("click", () => move(chosen() - 1));
 byId("on").addEventListener("click", () => move(chosen() + 1));
 document.addEventListener("keydown", (e) => {
   const to = { ArrowLeft: chosen() - 1, ArrowUp: chosen() - 1, ArrowRight: chosen() + 1, ArrowDown: chosen() + 1,
-    Home: 0, End: steps.length }[e.key];
+    Home: 0, End: rows.length }[e.key];
   if (to === undefined || e.ctrlKey || e.altKey || e.metaKey) return;
   e.preventDefault();
   move(to);
@@ -421,7 +451,7 @@ document.addEventListener("keydown", (e) => {
 drawLanes();
 drawGraph();
 showEnds();
-show(failure === null ? steps.length : ran);
+show(failure === null ? rows.length : ran);
 </script>
 </body>
 </html>

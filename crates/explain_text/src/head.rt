@@ -2,12 +2,12 @@
 
 use crate::origins::ValueLayout;
 use crate::text::TextWriter;
-use causes::{Event, Failure};
+use causes::{Event, Failure, Repeat};
 use explain::{Holder, Object};
 use guest_code::program::Instruction;
 use semantics::view::Kind;
 use std::alloc::AllocError;
-use text_lines::{Count, Page};
+use text_lines::{Count, InLine, Page};
 
 /// The column at which a line begins that says why a thread stopped in an error.
 const REASON_INDENT: usize = 4;
@@ -22,8 +22,7 @@ const VALUE_LAYOUT: ValueLayout = ValueLayout {
 };
 
 impl TextWriter<'_> {
-    /// Writes how the schedule ended, or that it isn't complete, and after how many steps and
-    /// preemptions; where a thread stopped in an error, also at which statement and why.
+    /// Writes how the schedule ended and after how many steps; of a failure, also where and why.
     pub fn put_head(&self, page: &mut Page) -> Result<(), AllocError> {
         if let Some(failure) = self.causes.failure()
             && let Some(event) = self.event(failure.event)
@@ -42,9 +41,7 @@ impl TextWriter<'_> {
         page.put_line(head.as_str(), INDENT)
     }
 
-    // The name of the file that the guest's lines come from, by a preprocessor's marks if there are
-    // any. Where the lines come from several files, or no thread has a statement, it is the name of
-    // the file that was read.
+    // The file that the guest's lines come from; where those are several, the one that was read.
     fn main_file_name(&self) -> &str {
         (0..self.source.program.threads())
             .map(|thread| self.line(thread, 0))
@@ -52,21 +49,17 @@ impl TextWriter<'_> {
             .map_or(self.file_name(), |line| line.file)
     }
 
-    // As text, these numbers of steps and preemptions, and, where a search showed it, that no
-    // schedule with fewer preemptions than the explained one is bad.
+    // As text, these counts; where a search showed it, that none with fewer preemptions is bad.
     fn counts_text(&self, steps: usize, preemptions: usize) -> Result<String, AllocError> {
-        let least = match self.explanation.preemptions() {
-            1 if self.layout.is_fewest => " No schedule with 0 is bad.",
-            n if self.layout.is_fewest && n > 1 => " No schedule with fewer is bad.",
-            _ => "",
+        let least = if self.layout.is_fewest && self.explanation.preemptions() > 0 {
+            " None with fewer preemptions is bad."
+        } else {
+            ""
         };
         let (steps, preemptions) = (Count(steps, "step"), Count(preemptions, "preemption"));
         format!(in self.alloc; "after {steps} with {preemptions}.{least}")
     }
 
-    // Writes which statement of which thread failed, after how many steps and preemptions, and why:
-    // of an assertion where its values came from, of an `unlock` or a `wait` who owned the mutex,
-    // of a `release` that the count is at its limit.
     fn put_failure(
         &self,
         page: &mut Page,
@@ -76,18 +69,52 @@ impl TextWriter<'_> {
         let site = self.event_site(&event);
         let steps = failure.step.map_or(0, |at| at.saturating_add(1));
         let counts = self.counts_text(steps, failure.preemptions)?;
-        let head = format!(in self.alloc;
-            "{}: FAILED: {}   in {} {counts}",
-            site.line.0.with_name(),
-            site.statement,
-            site.name
-        )?;
+        let (line, statement, name) = (site.line.0.with_name(), site.statement, site.name);
+        let head = format!(in self.alloc; "{line}: FAILED: {statement}   in {name} {counts}")?;
         page.put_line(head.as_str(), INDENT)?;
-        let words = match event.statement {
-            Instruction::Assert(e) => return self.put_values(page, failure.event, e, VALUE_LAYOUT),
-            Instruction::Unlock(m) | Instruction::Wait { mutex: m, .. } => {
-                self.holder_text(m, self.holder_before(failure.event, m))?
+        let mut told = Vec::new(self.alloc);
+        self.put_reason(page, failure.event, event.statement, &mut told)?;
+        self.put_repeats(page, failure.event)?;
+        self.put_tests(page, failure.event, &mut told)
+    }
+
+    fn put_repeats(&self, page: &mut Page, at: usize) -> Result<(), AllocError> {
+        for repeat in &self.causes.repeats_run_out(self.alloc, self.source, at)? {
+            let words = self.repeat_text(repeat)?;
+            page.put_indented(words.as_str(), REASON_INDENT, INDENT)?;
+        }
+        Ok(())
+    }
+
+    fn repeat_text(&self, repeat: &Repeat) -> Result<String, AllocError> {
+        let line = InLine(self.marks.file_line(self.file_name(), repeat.at.line));
+        let turns = Count(repeat.turns, "turn");
+        format!(in self.alloc; "the `repeat` in {line} ran out of its {turns}")
+    }
+
+    /// Which loops ran out of turns before a thread first stopped in an error: a line for each.
+    pub fn run_out_lines(&self) -> Result<String, AllocError> {
+        let mut lines = String::new(self.alloc);
+        if let Some(failure) = self.causes.failure() {
+            let at = failure.event;
+            for repeat in &self.causes.repeats_run_out(self.alloc, self.source, at)? {
+                writeln!(lines, "There {}.", self.repeat_text(repeat)?)?;
             }
+        }
+        Ok(lines)
+    }
+
+    // Writes why the event at a place failed; adds to `told` the places that set the locals shown.
+    fn put_reason(
+        &self,
+        page: &mut Page,
+        at: usize,
+        statement: Instruction,
+        told: &mut Vec<usize>,
+    ) -> Result<(), AllocError> {
+        let words = match statement {
+            Instruction::Assert(e) => return self.put_new_values(page, (at, e), VALUE_LAYOUT, told),
+            Instruction::Unlock(m) | Instruction::Wait { mutex: m, .. } => self.owner_text(at, m)?,
             Instruction::Release(k) => {
                 let name = self.object_name(Object::Semaphore(k));
                 format!(in self.alloc; "{name} is 65535, which is its limit")?
@@ -97,13 +124,24 @@ impl TextWriter<'_> {
         page.put_indented(words.as_str(), REASON_INDENT, INDENT)
     }
 
-    // The thread that owned a mutex before the event at a place of the run, and since which step;
-    // `None` where the mutex was free.
+    // As text, who owned a mutex before the event at a place, or that it was free, and since when.
+    fn owner_text(&self, at: usize, mutex: usize) -> Result<String, AllocError> {
+        let holder = self.holder_before(at, mutex);
+        let mut words = self.holder_text(mutex, holder)?;
+        let change = self.causes.last_owner_change(at, mutex);
+        if holder.is_none()
+            && let Some(event) = change.and_then(|place| self.event(place))
+        {
+            let (step, site) = (event.step.unwrap_or(0), self.event_site(&event));
+            write!(words, " since step {step} ({}, {site})", site.name)?;
+        }
+        Ok(words)
+    }
+
+    // Who owned a mutex before the event at a place, and since when; `None` where it was free.
     fn holder_before(&self, at: usize, mutex: usize) -> Option<Holder> {
         let event = self.event(self.causes.owned_since(at, mutex)?)?;
-        Some(Holder {
-            thread: event.thread,
-            since: event.step?,
-        })
+        let (thread, since) = (event.thread, event.step?);
+        Some(Holder { thread, since })
     }
 }

@@ -1,10 +1,9 @@
-//! The explanation of a schedule as text, in columns of a terminal.
-//!
-//! `head` says how the schedule ended, and by `origins` where the values came from; `rows` has the
-//! table of the steps; after that `reasons` says why threads can't go on, and `unblocking` which
-//! statements of other threads could end their waits.
+//! The explanation of a schedule as text: `head` says how it ended, `origins` where values came
+//! from, `decisions` which tests led there; `rows` has the table of the steps; `reasons` says why
+//! threads can't go on, and `unblocking` which statements could end their waits.
 #![tactic(auto)]
 
+mod decisions;
 mod head;
 mod origins;
 mod reasons;
@@ -12,4 +11,4 @@ mod rows;
 mod text;
 mod unblocking;
 
-pub use crate::text::{Layout, explanation_text, why_text};
+pub use crate::text::{Layout, explanation_text, run_out_lines, why_text};

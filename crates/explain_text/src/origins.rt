@@ -1,7 +1,7 @@
 //! Where the values of locals came from.
 
 use crate::text::TextWriter;
-use causes::Event;
+use causes::{Event, next_change, unchanged_since};
 use explain::{Object, ObjectState};
 use guest_code::program::{Expression, Instruction, Value};
 use std::alloc::AllocError;
@@ -12,8 +12,7 @@ const NESTING: usize = 2;
 /// How many columns further to the right what doesn't fit into a line goes on in the next one.
 const INDENT: usize = 4;
 
-/// How values are shown: from which column on, how many at most, and whether it is told who changed
-/// a variable after its value was read.
+/// How values are shown: from which column on, how many at most, and whether with later changes.
 #[derive(Clone, Copy)]
 pub struct ValueLayout {
     pub indent: usize,
@@ -21,8 +20,7 @@ pub struct ValueLayout {
     pub is_later_change_told: bool,
 }
 
-// A local that is still to be shown, `indent` columns from the left, with the value that it had
-// before the event at place `at` of the run.
+// A local still to be shown, from column `indent` on, as it was before the event at place `at`.
 #[derive(Clone, Copy)]
 struct PendingLocal {
     at: usize,
@@ -31,9 +29,8 @@ struct PendingLocal {
 }
 
 impl TextWriter<'_> {
-    /// Writes the locals of the expression that the event at place `at` of the run evaluates, each
-    /// with its value and where that came from; under a local that a `set` computed, the locals of
-    /// that `set`. Writes at most as many as `layout` says.
+    /// Writes the locals of the expression that the event at `at` evaluates, each with its value
+    /// and where that came from; under a local that a `set` computed, the locals of that `set`.
     pub fn put_values(
         &self,
         page: &mut Page,
@@ -41,6 +38,20 @@ impl TextWriter<'_> {
         expression: Expression,
         layout: ValueLayout,
     ) -> Result<(), AllocError> {
+        let mut told = Vec::new(self.alloc);
+        self.put_new_values(page, (at, expression), layout, &mut told)
+    }
+
+    /// Writes what [`TextWriter::put_values`] does for `test`, a place and its expression, but not
+    /// the locals that the events at the places `told` set; adds the places that set the others.
+    pub fn put_new_values(
+        &self,
+        page: &mut Page,
+        test: (usize, Expression),
+        layout: ValueLayout,
+        told: &mut Vec<usize>,
+    ) -> Result<(), AllocError> {
+        let (at, expression) = test;
         let thread = self.event(at).map_or(0, |event| event.thread);
         let mut stack = Vec::new(self.alloc);
         push_locals(&mut stack, at, layout.indent, expression)?;
@@ -50,6 +61,12 @@ impl TextWriter<'_> {
             };
             let name = self.local_name(thread, local);
             let setting = self.event_with_place(self.causes.last_assignment(at, thread, local));
+            if let Some((place, _)) = setting {
+                if told.as_slice().contains(&place) {
+                    continue;
+                }
+                told.push(place)?;
+            }
             let words = self.value_origin_text(name, setting, layout.is_later_change_told)?;
             page.put_indented(words.as_str(), indent, indent.saturating_add(INDENT))?;
             if let Some((at, event)) = setting
@@ -61,17 +78,12 @@ impl TextWriter<'_> {
         Ok(())
     }
 
-    // The place `at` in the run, and the event there; `None` where `at` is `None`, or where the run
-    // has no event at that place.
     fn event_with_place(&self, at: Option<usize>) -> Option<(usize, Event)> {
         Some((at?, self.event(at?)?))
     }
 
-    // As text, a local, its value, and where the value came from: `setting` is the event that set
-    // the local, with its place; `None` where the local still is 0 as at the start. Of a value that
-    // was read from a variable, also who wrote the variable last before the read. Which other
-    // thread changed it first after the read is told if `is_later_change_told` is true, or if
-    // nobody wrote it before the read, which may then have come too early.
+    // As text, a local, its value and where it came from: `setting`, or `None` for the 0 at first.
+    // The next change is told also if nobody wrote before the read, which may have come too early.
     fn value_origin_text(
         &self,
         name: &str,
@@ -81,11 +93,8 @@ impl TextWriter<'_> {
         let Some((at, event)) = setting else {
             return format!(in self.alloc; "{name} = 0   from the start");
         };
-        let (value, step, site) = (
-            event.value(),
-            event.step.unwrap_or(0),
-            self.event_site(&event),
-        );
+        let (value, step) = (event.value(), event.step.unwrap_or(0));
+        let site = self.event_site(&event);
         let mut words = format!(in self.alloc; "{name} = {value}   ")?;
         let Some(variable) = event.variable_read() else {
             write!(words, "set in {site}")?;
@@ -98,31 +107,30 @@ impl TextWriter<'_> {
             }
             Instruction::Cas { .. } => {
                 let outcome = if value == 0 { "missed" } else { "hit" };
-                let (old, _) = self.old_and_new(&event);
+                let (old, _) = self.old_and_new(step);
                 write!(words, "since step {step} {outcome} ({site}): {x} was {old}")?;
             }
             _ => write!(words, "read in step {step} ({site}) from {x}")?,
         }
         words.push_str(self.writer_text(event.thread, at, variable)?.as_str())?;
         if is_later_change_told || self.causes.last_write(at, variable).is_none() {
-            words.push_str(self.overwrite_text(event.thread, at, variable)?.as_str())?;
+            let next = self.next_change_text(event.thread, step, variable)?;
+            words.push_str(next.as_str())?;
         }
         Ok(words)
     }
 
-    // As text, who wrote a variable last before thread `reader` read it in the event at place `at`,
-    // and what its value was before that write and since when; or that nobody had written it.
+    // As text, who wrote a variable last before `reader` read it at `at`, and what it was earlier.
     fn writer_text(&self, reader: u8, at: usize, variable: usize) -> Result<String, AllocError> {
-        let Some((at, event)) = self.event_with_place(self.causes.last_write(at, variable)) else {
+        let Some((_, event)) = self.event_with_place(self.causes.last_write(at, variable)) else {
             return ", which nobody had written before".to_string(self.alloc);
         };
-        let is_own = reader == event.thread;
-        let itself = if is_own { " itself" } else { "" };
         let (step, site) = (event.step.unwrap_or(0), self.event_site(&event));
-        let (name, x) = (site.name, self.object_name(Object::Variable(variable)));
-        let (old, _) = self.old_and_new(&event);
-        let since = match self.event_with_place(self.causes.last_write(at, variable)) {
-            Some((_, earlier)) => self.since_step_text(&earlier)?,
+        let (name, itself) = (site.name, itself_word(event.thread, reader));
+        let x = self.object_name(Object::Variable(variable));
+        let (old, _) = self.old_and_new(step);
+        let since = match unchanged_since(self.explanation.steps(), step, variable) {
+            Some(earlier) => self.since_step_text(earlier)?,
             None => " from the start".to_string(self.alloc)?,
         };
         format!(in self.alloc;
@@ -130,13 +138,15 @@ impl TextWriter<'_> {
         )
     }
 
-    // As text, since which step a variable has the value that an event wrote, and which thread was
-    // preempted before that step, if one was.
-    fn since_step_text(&self, event: &Event) -> Result<String, AllocError> {
-        let (step, site) = (event.step.unwrap_or(0), self.event_site(event));
+    // As text, that something is so since a step, and who was preempted before it, if anyone was.
+    fn since_step_text(&self, at: usize) -> Result<String, AllocError> {
+        let Some(step) = self.step(at) else {
+            return Ok(String::new(self.alloc));
+        };
+        let site = self.site(step.line.thread, step.instruction);
         let (name, line) = (site.name, site.line);
-        let mut words = format!(in self.alloc; " since step {step} ({name}, {line})")?;
-        if let Some(before) = step.checked_sub(1)
+        let mut words = format!(in self.alloc; " since step {at} ({name}, {line})")?;
+        if let Some(before) = at.checked_sub(1)
             && self.is_preempted_after(before)
             && let Some(other) = self.thread_of_step(before)
         {
@@ -145,40 +155,38 @@ impl TextWriter<'_> {
         Ok(words)
     }
 
-    // As text, which thread but `reader` changed a variable first after the event at place `at`,
-    // in which it was read, and to what value; empty where none did.
-    fn overwrite_text(&self, reader: u8, at: usize, variable: usize) -> Result<String, AllocError> {
-        let mut later = self.causes.events().iter().skip(at);
-        let next = later.find(|event| event.variable_written() == Some(variable)
-            && event.thread != reader
-            && self.is_change(event));
-        let Some(event) = next else {
+    // As text, who changed a variable next after step `read`; empty if none, or that step, did.
+    fn next_change_text(
+        &self,
+        reader: u8,
+        read: usize,
+        variable: usize,
+    ) -> Result<String, AllocError> {
+        let next = next_change(self.explanation.steps(), read, variable);
+        let Some(at) = next.filter(|at| *at != read) else {
             return Ok(String::new(self.alloc));
         };
-        let (name, step) = (self.thread_name(event.thread), event.step.unwrap_or(0));
-        let (_, new) = self.old_and_new(event);
-        format!(in self.alloc; "; {name} made it {new} in step {step}")
+        let thread = self.thread_of_step(at).unwrap_or(reader);
+        let (name, itself) = (self.thread_name(thread), itself_word(thread, reader));
+        let (_, new) = self.old_and_new(at);
+        format!(in self.alloc; "; {name}{itself} made it {new} in step {at}")
     }
 
-    // Whether the step of an event left the step's variable with another value than before.
-    fn is_change(&self, event: &Event) -> bool {
-        let (old, new) = self.old_and_new(event);
-        old != new
-    }
-
-    // The values of the variable that an event's step is on, before and after the step; zeros where
-    // the event belongs to no step, or to one that is on no variable.
-    fn old_and_new(&self, event: &Event) -> (i64, i64) {
-        let step = event.step.and_then(|at| self.step(at));
-        match step.map(|step| (step.old, step.new)) {
+    // A variable's values before and after the step at a place; zeros where that is on no variable.
+    fn old_and_new(&self, at: usize) -> (i64, i64) {
+        match self.step(at).map(|step| (step.old, step.new)) {
             Some((ObjectState::Value(old), ObjectState::Value(new))) => (old, new),
             _ => (0, 0),
         }
     }
 }
 
-// Pushes the locals of an expression, which the event at place `at` evaluates, to be shown `indent`
-// columns from the left. The first local is popped first; one that is there twice is pushed once.
+// What comes after the name of a thread that is told beside `reader`, to say that it is that one.
+fn itself_word(thread: u8, reader: u8) -> &'static str {
+    if thread == reader { " itself" } else { "" }
+}
+
+// Pushes the locals of an expression to be shown, the first on top; one that is there twice, once.
 fn push_locals(
     stack: &mut Vec<PendingLocal>,
     at: usize,

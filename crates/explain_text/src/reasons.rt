@@ -1,6 +1,4 @@
-//! Why threads can't go on.
-//!
-//! A circle is a set of threads each of which waits, through others if need be, for each of them.
+//! Why threads can't go on. In a circle each thread waits, perhaps through others, for each.
 
 use crate::text::{TextWriter, push_entry};
 use explain::{Holder, Object, Reason};
@@ -19,8 +17,7 @@ const GAPS_WIDTH: usize = 10;
 /// The column at which what doesn't fit into a line goes on in the next one.
 const INDENT: usize = 6;
 
-// How wide the columns of the table of the blocked threads are: of their names, of their places,
-// and of the reasons why those that are in circles can't go on, beside which marks stand.
+// The widths of the columns of names, places, and the reasons of threads in circles.
 #[derive(Clone, Copy, Default)]
 struct Widths {
     name: usize,
@@ -29,9 +26,8 @@ struct Widths {
 }
 
 impl TextWriter<'_> {
-    /// Where the schedule is stuck or a thread stopped in an error, writes for each blocked thread
-    /// why it can't go on, and who could end the waits. Then writes why the schedule's next step
-    /// can't be taken, where it can't, and which threads are still enabled, where some are.
+    /// Where the schedule is stuck or a thread failed, writes why each blocked one can't go on and
+    /// who could end the waits; then why the next step can't be taken, and who is still enabled.
     pub fn put_reasons(&self, page: &mut Page) -> Result<(), AllocError> {
         let title = match self.explanation.kind() {
             Some(Kind::Stuck) => Some("Why nobody can go on"),
@@ -49,57 +45,41 @@ impl TextWriter<'_> {
         self.put_continuation(page)
     }
 
-    // Writes a row for each blocked thread: circle by circle those that wait for one another, then
-    // the threads that are in no circle.
     fn put_blocked_threads(&self, page: &mut Page) -> Result<(), AllocError> {
         let widths = self.column_widths()?;
         for circle in self.waits.circles() {
             self.put_circle(page, *circle, widths)?;
         }
-        for wait in self
-            .waits
-            .all()
-            .iter()
-            .filter(|wait| wait.is_in_no_circle())
-        {
+        let waits = self.waits.all().iter();
+        for wait in waits.filter(|wait| wait.is_in_no_circle()) {
             self.put_wait_row(page, wait, "", widths)?;
         }
         Ok(())
     }
 
-    // Writes a row for each thread of a circle. Marks beside the rows show that these threads wait
-    // for one another; where the rows would be too wide with marks, a line below them says it.
+    // Writes the rows of a circle, with marks or, where those don't fit, a line below that says it.
     fn put_circle(&self, page: &mut Page, circle: Mask, widths: Widths) -> Result<(), AllocError> {
         let columns = widths.name.saturating_add(widths.place);
         let columns = columns.saturating_add(widths.reason);
         let is_marked = columns.saturating_add(GAPS_WIDTH + MARK_WIDTH) <= self.columns.width;
         let waits = self.waits.all().iter();
-        let members: Vec<&Wait> = waits
-            .filter(|wait| circle.has(wait.thread))
-            .collect(self.alloc)?;
+        let members = waits.filter(|wait| circle.has(wait.thread));
+        let members: Vec<&Wait> = members.collect(self.alloc)?;
         let mut names = String::new(self.alloc);
-        let length = members.len();
+        let size = members.len();
         for (at, wait) in members.iter().enumerate() {
-            let mark = if is_marked {
-                circle_mark(at, length)
-            } else {
-                ""
-            };
+            let mark = if is_marked { circle_mark(at, size) } else { "" };
             self.put_wait_row(page, wait, mark, widths)?;
             push_entry(&mut names, self.thread_name(wait.thread))?;
         }
-        if is_marked {
-            return Ok(());
-        }
-        let words = match length {
+        let words = match size {
+            _ if is_marked => return Ok(()),
             1 => format!(in self.alloc; "  {names} waits for itself")?,
             _ => format!(in self.alloc; "  {names} wait for one another")?,
         };
         page.put_line(words.as_str(), INDENT)
     }
 
-    // Writes the row of a blocked thread, in columns of these widths: its name, its statement, why
-    // it can't go on, and `mark`, which shows the circle that the thread is in, or is empty.
     fn put_wait_row(
         &self,
         page: &mut Page,
@@ -114,8 +94,7 @@ impl TextWriter<'_> {
         page.put_line(row.as_str(), INDENT)
     }
 
-    /// As text, what a blocked thread waits to do: its statement, or `retake` and the mutex where
-    /// it was woken.
+    /// As text, what a blocked thread waits to do; `retake` and the mutex where it was woken.
     pub fn blocked_action(&self, wait: &Wait) -> Result<String, AllocError> {
         let retakes = matches!(wait.reason, Reason::Retake(_));
         self.action_text(wait.thread, self.instruction_at_end(wait.thread), retakes)
@@ -127,8 +106,7 @@ impl TextWriter<'_> {
         format!(in self.alloc; "at {line}: {action}")
     }
 
-    // How wide the columns have to be for the rows of all blocked threads. The column of reasons is
-    // as wide as the threads in circles need it, since marks stand beside their rows alone.
+    // The widths that all rows need; of reasons only those in circles count, as marks follow them.
     fn column_widths(&self) -> Result<Widths, AllocError> {
         let mut widths = Widths::default();
         for wait in self.waits.all() {
@@ -141,9 +119,7 @@ impl TextWriter<'_> {
         Ok(widths)
     }
 
-    // As text, why a blocked thread can't go on: who owns the mutex that it waits for, and whether
-    // that one has ended or stopped; that the semaphore is 0, and who acquired it last, if anyone
-    // did; or since which step the thread waits for a condition.
+    // As text, why a thread can't go on: who has what it waits for, or since when it waits.
     fn reason_text(&self, wait: &Wait) -> Result<String, AllocError> {
         let name = self.object_name(wait.reason.object());
         match wait.reason {
@@ -170,8 +146,7 @@ impl TextWriter<'_> {
         }
     }
 
-    /// As text, that a mutex is held, by whom and since which step, or that it is free if `holder`
-    /// is `None`.
+    /// As text, who owns a mutex and since which step, or that it is free if `holder` is `None`.
     pub fn holder_text(&self, mutex: usize, holder: Option<Holder>) -> Result<String, AllocError> {
         let name = self.object_name(Object::Mutex(mutex));
         let Some(Holder { thread, since }) = holder else {
@@ -183,8 +158,7 @@ impl TextWriter<'_> {
         format!(in self.alloc; "{name} is held by {owner} (since step {since}, {line})")
     }
 
-    // As text, that the holder of a mutex has ended or stopped and still owns it; empty where that
-    // isn't so, or nobody holds the mutex.
+    // As text, that the holder ended or stopped and owns its mutex still; empty if neither is so.
     fn holder_end_text(&self, holder: Option<Holder>) -> &'static str {
         let standing = holder.and_then(|holder| self.explanation.thread_state(holder.thread));
         match standing.map(|standing| standing.status) {
@@ -194,8 +168,7 @@ impl TextWriter<'_> {
         }
     }
 
-    // Writes why the schedule's next step can't be taken, where it can't, and whether the run was
-    // over before it; then which threads are still enabled, where the schedule isn't complete.
+    // Writes why the schedule's next step can't be taken, and who could go on if it isn't complete.
     fn put_continuation(&self, page: &mut Page) -> Result<(), AllocError> {
         let kind = self.explanation.kind();
         let mut words = String::new(self.alloc);
@@ -217,7 +190,6 @@ impl TextWriter<'_> {
         page.put_empty_line()
     }
 
-    // Adds to `words` which threads are enabled at the end, by name and number.
     fn put_enabled(&self, words: &mut String) -> Result<(), AllocError> {
         let mut names = String::new(self.alloc);
         for t in 0..self.source.program.threads() {
@@ -229,7 +201,6 @@ impl TextWriter<'_> {
         write!(words, "Could go on: {names}")
     }
 
-    // Adds to `words` why the schedule's next step, which is this thread's, can't be taken.
     fn put_refused_step(&self, words: &mut String, thread: u8) -> Result<(), AllocError> {
         let at = self.explanation.steps().len();
         write!(words, "Step {at} can't be taken: ")?;
@@ -248,9 +219,7 @@ impl TextWriter<'_> {
     }
 }
 
-// The mark beside a thread in a circle of `length` threads, by its place among them: together the
-// marks are a bracket, with the word `circle` at its top; a thread that waits for itself has
-// `itself`.
+// The mark of a thread at `place` in a circle: together they are a bracket, `circle` at its top.
 fn circle_mark(place: usize, length: usize) -> &'static str {
     match (place, length.saturating_sub(place)) {
         (0, 1) => "itself",

@@ -7,46 +7,82 @@ use replay::Act;
 use semantics::state::Stop;
 use semantics::view::Kind;
 use std::alloc::AllocError;
+use std::collections::BTreeSet;
 use text_lines::{
-    COLUMN, Count, GAP, InLine, Page, STEP, line_cell, pad_to, put_repeated, put_truncated,
+    Content, Count, GAP, InLine, Page, STEP, line_cell, pad_to, put_repeated, put_truncated,
     width_of,
 };
 
-/// In a column that several threads share, the fewest columns that are left of a thread's name,
-/// which comes before its statement.
+/// The fewest columns that are left of a thread's name before a statement in a shared column.
 const SHORTEST_LABEL: usize = 4;
+/// What the table says of a thread that an assertion stopped.
+const ASSERT: &str = "assert";
 
 impl TextWriter<'_> {
-    /// Writes the table of the steps, with rows for threads that stopped before the first step, and
-    /// for all threads where the schedule ends in a deadlock. Where there are more steps than the
-    /// layout says, two or more in a row share one if they matter less: `has_own_row` is false of
-    /// them. The answer is how many steps have rows of their own.
+    /// Writes the table of the steps, with rows for threads that stopped at the start, and for all
+    /// in a deadlock. The answer is how many steps have rows that they don't share.
     pub fn put_table(&self, page: &mut Page) -> Result<usize, AllocError> {
         self.put_header(page)?;
         self.put_initial_stops(page)?;
         let steps = self.explanation.steps().len();
-        let mut folded = 0_usize;
-        let mut next = 0;
+        let (mut shown, mut next) = (0_usize, 0);
         for at in 0..steps {
-            if steps <= self.layout.steps || self.has_own_row(at) {
-                folded = folded.saturating_add(self.put_folded_steps(page, next, at)?);
+            if self.is_left_out(at) {
+                next = at + 1;
+            } else if self.has_own_row(at) {
+                let folded = self.put_folded_steps(page, next, at)?;
+                shown = shown.saturating_add(folded).saturating_add(1);
                 self.put_step_rows(page, at)?;
                 next = at + 1;
             }
         }
-        folded = folded.saturating_add(self.put_folded_steps(page, next, steps)?);
+        shown = shown.saturating_add(self.put_folded_steps(page, next, steps)?);
         self.put_end_rows(page)?;
-        Ok(steps.saturating_sub(folded))
+        Ok(shown)
     }
 
-    /// The width, in columns, of the table's widest cell that has a line with the name of its file,
-    /// as `worker.inc:12`; 0 where no line is printed with the name of its file.
+    /// Of each thread, how wide its name is, and the widest of its cells in the table.
+    pub fn column_contents(&self) -> Result<Vec<Content>, AllocError> {
+        let mut contents = Vec::new(self.alloc);
+        for thread in 0..self.source.program.threads() {
+            let name = width_of(self.thread_name(thread));
+            let cell = self.end_cell_width(thread)?;
+            contents.push(Content { name, cell })?;
+        }
+        let mut seen = BTreeSet::new(self.alloc);
+        for (at, step) in self.explanation.steps().iter().enumerate() {
+            let (thread, instruction) = (step.line.thread, step.instruction);
+            let is_shown = !self.is_left_out(at) && self.has_own_row(at);
+            if is_shown
+                && seen.insert((thread, instruction))?
+                && let Some(content) = contents.get_mut(thread as usize)
+            {
+                let retakes = matches!(step.line.act, Act::Retake(_));
+                let action = self.action_text(thread, instruction, retakes)?;
+                content.cell = width_of(action.as_str()).max(content.cell);
+            }
+        }
+        Ok(contents)
+    }
+
+    // The columns of a thread's widest cell where it is blocked in a deadlock, or else of `assert`.
+    fn end_cell_width(&self, thread: u8) -> Result<usize, AllocError> {
+        match self.waits.get(thread) {
+            Some(wait) if self.explanation.kind() == Some(Kind::Stuck) => {
+                let place = format!(in self.alloc; "BLOCKED at {}", self.line_at_end(thread))?;
+                let action = self.blocked_action(wait)?;
+                Ok(width_of(place.as_str()).max(width_of(action.as_str())))
+            }
+            _ => Ok(width_of(ASSERT)),
+        }
+    }
+
+    /// The columns of the widest cell that has a file's name, as `worker.inc:12`; 0 without any.
     pub fn line_cell_width(&self) -> Result<usize, AllocError> {
         let steps = self.explanation.steps().iter();
         let threads = 0..self.source.program.threads();
-        let places = steps
-            .map(|step| (step.line.thread, step.instruction))
-            .chain(threads.map(|t| (t, self.instruction_at_end(t))));
+        let places = steps.map(|step| (step.line.thread, step.instruction));
+        let places = places.chain(threads.map(|t| (t, self.instruction_at_end(t))));
         let mut widest = 0;
         for (thread, instruction) in places {
             let line = self.line(thread, instruction);
@@ -57,47 +93,48 @@ impl TextWriter<'_> {
         Ok(widest)
     }
 
-    /// The number of the thread that took the step at a place of the schedule; `None` where no step
-    /// ran there.
+    /// The thread that took the step at a place of the schedule; `None` where no step ran there.
     pub fn thread_of_step(&self, at: usize) -> Option<u8> {
         self.step(at).map(|step| step.line.thread)
     }
 
-    /// Whether the thread of the step at a place is preempted after it: another thread takes the
-    /// next step, while this one is still enabled.
+    /// Whether the thread of the step at a place is still enabled, and another takes the next step.
     pub fn is_preempted_after(&self, at: usize) -> bool {
         let next = self.step(at.saturating_add(1));
         next.is_some_and(|next| next.line.preempting)
     }
 
-    // Whether the step at a place, or an event of the local run after it, is in the cause of how
-    // the schedule ended; false where no step ran there.
+    // Whether the step at a place, or an event of the local run after it, is in the cause.
     fn is_in_cause(&self, at: usize) -> bool {
         self.causes.step_marks().get(at).copied().unwrap_or(false)
     }
 
-    // Whether the step at a place has a row of its own where other steps share rows: it is in the
-    // cause of how the schedule ended, its thread is preempted after it, or another thread took the
-    // step before it.
+    // Whether a step has no row, as it comes after the first error and isn't in the cause.
+    fn is_left_out(&self, at: usize) -> bool {
+        let failure = self.causes.failure();
+        let is_late = failure.is_some_and(|failure| failure.step.is_none_or(|step| at > step));
+        is_late && !self.is_in_cause(at) && self.layout.steps < usize::MAX
+    }
+
+    // Whether a step shares no row: it is in the cause, or threads change, or the layout has room.
     fn has_own_row(&self, at: usize) -> bool {
-        self.is_in_cause(at)
+        self.explanation.steps().len() <= self.layout.steps
+            || self.is_in_cause(at)
             || self.is_preempted_after(at)
             || self.thread_of_step(at.saturating_sub(1)) != self.thread_of_step(at)
     }
 
-    // Writes the names of the table's columns, and below them a line of dashes for each column.
     fn put_header(&self, page: &mut Page) -> Result<(), AllocError> {
-        let columns = self.columns;
-        let mut header = Header {
-            names: String::new(self.alloc),
-            rules: String::new(self.alloc),
-        };
+        let columns = &self.columns;
+        let (names, rules) = (String::new(self.alloc), String::new(self.alloc));
+        let mut header = Header { names, rules };
         header.put_column(0, STEP - 1, "step")?;
         header.put_column(STEP, columns.margin.saturating_sub(STEP + GAP), "line")?;
         for t in (0..self.source.program.threads()).take(columns.own) {
+            let (start, width) = (columns.start(t as usize), columns.width_of(t as usize));
             let mut name = String::new(self.alloc);
-            put_truncated(&mut name, self.thread_name(t), COLUMN)?;
-            header.put_column(columns.start(t as usize), COLUMN, name.as_str())?;
+            put_truncated(&mut name, self.thread_name(t), width)?;
+            header.put_column(start, width, name.as_str())?;
         }
         if columns.is_shared {
             let start = columns.start(columns.own);
@@ -124,9 +161,7 @@ impl TextWriter<'_> {
         Ok(())
     }
 
-    // Writes one row for the steps of the places `from..to`, which are of one thread; for a single
-    // step its own rows, and for none nothing. The answer is how many steps share the row: 0 where
-    // there is at most one.
+    // Writes one row for a thread's steps `from..to`; the answer is how many have their own rows.
     fn put_folded_steps(
         &self,
         page: &mut Page,
@@ -138,15 +173,17 @@ impl TextWriter<'_> {
             if from < to {
                 self.put_step_rows(page, from)?;
             }
-            return Ok(0);
+            return Ok(steps.len());
         };
         let (last, name) = (to.saturating_sub(1), self.thread_name(first.line.thread));
         let mut row = format!(in self.alloc; "{from}-{last}")?;
         pad_to(&mut row, self.columns.start(0))?;
         let cell = format!(in self.alloc; ".. {} of {name} ..", Count(steps.len(), "step"))?;
-        self.put_clipped(&mut row, cell.as_str())?;
+        let room = self.columns.end().max(self.columns.width / 2);
+        let room = room.saturating_sub(width_of(row.as_str()));
+        put_truncated(&mut row, cell.as_str(), room)?;
         self.put_row(page, row.as_str(), self.changed_values(steps)?.as_str())?;
-        Ok(steps.len())
+        Ok(0)
     }
 
     // As text, each variable that one of these steps changes, with its value after the last step.
@@ -177,10 +214,8 @@ impl TextWriter<'_> {
         page.put_columns(row, changes, self.columns.changes, self.columns.changes)
     }
 
-    // Adds to a row, which has only its first column, the line of an instruction and, in the column
-    // of its thread, `action`, which says what the thread does there. Where the column is shared,
-    // the thread's name comes before `action`. Where both don't fit, the name is cut off, but not
-    // below `SHORTEST_LABEL` columns, and then `action`.
+    // Adds to a row an instruction's line and, in its thread's column, `action`. In a shared column
+    // the name comes first, cut off before `action` is, but to `SHORTEST_LABEL` columns at least.
     fn put_action(
         &self,
         row: &mut String,
@@ -194,15 +229,12 @@ impl TextWriter<'_> {
         row.push_str(line.as_str())?;
         pad_to(row, self.columns.start(thread as usize))?;
         if thread as usize >= self.columns.own {
-            let room = self.columns.end().saturating_sub(width_of(row.as_str()));
-            let rest = room.saturating_sub(width_of(action).saturating_add(2));
-            self.put_thread_label(row, thread, rest.max(SHORTEST_LABEL))?;
+            self.put_thread_label(row, thread, self.columns.label.max(SHORTEST_LABEL))?;
         }
         self.put_clipped(row, action)
     }
 
-    // Adds the name of a thread and a colon. Of a name with more columns than `room` it adds the
-    // beginning and two dots, or the thread's number where another name has the same beginning.
+    // Adds a name, cut off to `room` columns, or the thread's number if another name begins alike.
     fn put_thread_label(
         &self,
         row: &mut String,
@@ -224,9 +256,6 @@ impl TextWriter<'_> {
         row.push_str(": ")
     }
 
-    // Writes the row of the step at a place, if one ran there. If an assertion failed in the local
-    // run after the step, a row below says which; if the step's thread was preempted, another row
-    // says that.
     fn put_step_rows(&self, page: &mut Page, at: usize) -> Result<(), AllocError> {
         let Some(step) = self.step(at) else {
             return Ok(());
@@ -240,15 +269,13 @@ impl TextWriter<'_> {
         if step.line.stop == Some(Stop::Assert) {
             self.put_stop_row(page, format!(in self.alloc; "{at:>4}")?, thread)?;
         }
-        if self.is_preempted_after(at) {
+        if self.is_preempted_after(at) && !self.is_left_out(at.saturating_add(1)) {
             self.put_preemption_row(page, step)?;
         }
         Ok(())
     }
 
-    // As text, what the step at a place changed: its object, and the locals that its thread set in
-    // the step and in the local run after it. Of a store in the cause of how the schedule ended,
-    // also which other thread wrote the variable since the storing thread used it last, if one did.
+    // As text, what a step and its local run changed; of a store, also who wrote before it.
     fn changes_text(&self, at: usize, step: &Step) -> Result<String, AllocError> {
         let thread = step.line.thread;
         let mut changes = self.object_change_text(step)?;
@@ -262,16 +289,19 @@ impl TextWriter<'_> {
             }
             let (name, value) = (self.local_name(thread, setting.local), setting.value);
             write!(changes, "{name} = {value}")?;
+            let is_of_step = setting.instruction == step.instruction;
+            if is_of_step && matches!(step.line.act, Act::Load { .. }) {
+                write!(changes, " from {}", self.object_name(step.object))?;
+            }
         }
         if let Some((writer, since)) = self.intervening_writer(at, step) {
-            let name = self.thread_name(writer);
-            write!(changes, "; {name} wrote it since step {since}")?;
+            let (name, x) = (self.thread_name(writer), self.object_name(step.object));
+            write!(changes, "; {name} wrote {x} since step {since}")?;
         }
         Ok(changes)
     }
 
-    // As text, what a step did to its object, and whom it woke, or, after `FALSE:`, why its thread
-    // stopped instead. It is empty for a load.
+    // As text, what a step did to its object, or, after `FALSE:`, why it failed; empty for a load.
     fn object_change_text(&self, step: &Step) -> Result<String, AllocError> {
         let name = self.object_name(step.object);
         match (step.line.act, step.line.stop) {
@@ -296,9 +326,7 @@ impl TextWriter<'_> {
         }
     }
 
-    // As text, how a step changed the object of this name: the value of a variable or the count of
-    // a semaphore before and after the step, as `x 1 -> 2`, or `x 1 (unchanged)` for a value that
-    // stays; or who owns a mutex after it. Empty for a condition.
+    // As text, an object's value, count or owner before and after a step; empty for a condition.
     fn state_change_text(&self, name: &str, step: &Step) -> Result<String, AllocError> {
         match (step.old, step.new) {
             (_, ObjectState::Owner(Some(owner))) => {
@@ -318,10 +346,8 @@ impl TextWriter<'_> {
         }
     }
 
-    // Where `store`, the step at place `at`, is a store in the cause of how the schedule ended:
-    // which other thread wrote the variable last since the storing thread's previous use of it, and
-    // the place of that use. `None` for any other step, where there is no previous use, or where no
-    // other thread wrote the variable since.
+    // Of a store in the cause: which other thread wrote the variable last since the thread used it
+    // before, and the place of that use. `None` where there is none, and for other steps.
     fn intervening_writer(&self, at: usize, store: &Step) -> Option<(u8, usize)> {
         if !self.is_in_cause(at) || !matches!(store.line.act, Act::Store { .. }) {
             return None;
@@ -335,13 +361,12 @@ impl TextWriter<'_> {
         Some((writes.last()?.line.thread, since))
     }
 
-    // Writes the row of the assertion that stopped a thread, if there is such a thread. `row` has
-    // its first column: the number of the step that led to the assertion, or `start`.
+    // Writes the row of an assertion that stopped a thread; `row` has its first column.
     fn put_stop_row(&self, page: &mut Page, mut row: String, thread: u8) -> Result<(), AllocError> {
         let Some(standing) = self.explanation.thread_state(thread) else {
             return Ok(());
         };
-        self.put_action(&mut row, thread, standing.instruction, "assert")?;
+        self.put_action(&mut row, thread, standing.instruction, ASSERT)?;
         let changes = match self.source.instruction(thread, standing.instruction) {
             Some(Instruction::Assert(e)) => self.assertion_text(standing, e)?,
             _ => String::new(self.alloc),
@@ -367,18 +392,16 @@ impl TextWriter<'_> {
         }
     }
 
-    // Writes a row, to stand below that of a step, which says that the step's thread was preempted,
-    // and before which of its statements.
     fn put_preemption_row(&self, page: &mut Page, step: &Step) -> Result<(), AllocError> {
-        let column = self.columns.start(step.line.thread as usize);
-        let row = format!(in self.alloc; "{:column$}{:~<COLUMN$}", "", "")?;
+        let thread = step.line.thread as usize;
+        let (column, width) = (self.columns.start(thread), self.columns.width_of(thread));
+        let row = format!(in self.alloc; "{:column$}{:~<width$}", "", "")?;
         let site = self.site(step.line.thread, step.next);
         let words = format!(in self.alloc; "{} is interrupted before {site}", site.name)?;
         page.put_columns(row.as_str(), words.as_str(), 0, column)
     }
 
-    // In a deadlock, writes for each thread with a column of its own whether it has ended or is
-    // blocked and where, and in a second row what the blocked ones can't do.
+    // In a deadlock, writes whether each thread with a column has ended or is blocked, and at what.
     fn put_end_rows(&self, page: &mut Page) -> Result<(), AllocError> {
         if self.explanation.kind() != Some(Kind::Stuck) || self.columns.own == 0 {
             return Ok(());
@@ -395,8 +418,7 @@ impl TextWriter<'_> {
         page.put_unwrapped(under.as_str())
     }
 
-    // Adds to `row` whether a thread has ended or is blocked, with the line where that fits into
-    // the thread's column, and to `under`, the next row, what a blocked thread can't do.
+    // Adds to `row` whether a thread ended or is blocked, and to `under`, the next row, on what.
     fn put_end_cells(
         &self,
         row: &mut String,
@@ -404,18 +426,16 @@ impl TextWriter<'_> {
         thread: u8,
     ) -> Result<(), AllocError> {
         let start = self.columns.start(thread as usize);
+        let width = self.columns.width_of(thread as usize);
         pad_to(row, start)?;
         let Some(wait) = self.waits.get(thread) else {
             return row.push_str("ended");
         };
         let blocked = format!(in self.alloc; "BLOCKED at {}", self.line_at_end(thread))?;
-        row.push_str(if blocked.len() > COLUMN + 1 {
-            "BLOCKED"
-        } else {
-            blocked.as_str()
-        })?;
+        let is_long = blocked.len() > width.saturating_add(1);
+        row.push_str(if is_long { "BLOCKED" } else { blocked.as_str() })?;
         pad_to(under, start)?;
-        put_truncated(under, self.blocked_action(wait)?.as_str(), COLUMN)
+        put_truncated(under, self.blocked_action(wait)?.as_str(), width)
     }
 }
 

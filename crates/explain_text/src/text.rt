@@ -15,8 +15,7 @@ use waits::Waits;
 pub struct Layout {
     /// Columns of a line, at most; fewer than 40 count as 40, more than 1,000 as 1,000.
     pub width: usize,
-    /// A schedule of at most this many steps has a row for each. In a longer one, steps that matter
-    /// less share rows.
+    /// A schedule of at most this many steps has a row for each; in a longer one some share rows.
     pub steps: usize,
     /// Whether a search showed that no schedule with fewer preemptions is bad.
     pub is_fewest: bool,
@@ -38,9 +37,8 @@ pub struct TextWriter<'a> {
     pub columns: Columns,
 }
 
-/// The explanation as text: how the schedule ended, a table of its steps with columns for the
-/// threads, and why threads can't go on. No line is wider than the layout says but the last one,
-/// the command that replays the schedule. Fails where memory runs out.
+/// The explanation as text, with a table of the steps. Only the last line, the command that replays
+/// the schedule, may be wider than the layout says. Fails where memory runs out.
 pub fn explanation_text(
     alloc: Global,
     explanation: &Explanation,
@@ -50,8 +48,7 @@ pub fn explanation_text(
     TextWriter::new(alloc, explanation, source, layout)?.text(true)
 }
 
-/// How the schedule ends and why, in words, without the steps; the last line is the command that
-/// replays it. Fails where memory runs out.
+/// The explanation without the steps: how the schedule ends and why. Fails where memory runs out.
 pub fn why_text(
     alloc: Global,
     explanation: &Explanation,
@@ -59,6 +56,21 @@ pub fn why_text(
     layout: Layout,
 ) -> Result<Vec<u8>, AllocError> {
     TextWriter::new(alloc, explanation, source, layout)?.text(false)
+}
+
+/// Which loops ran out of turns before a thread first stopped in an error, a line for each; empty
+/// where no thread stopped. Fails where memory runs out.
+pub fn run_out_lines(
+    alloc: Global,
+    explanation: &Explanation,
+    source: &Source<'_>,
+) -> Result<String, AllocError> {
+    let layout = Layout {
+        width: 0,
+        steps: 0,
+        is_fewest: false,
+    };
+    TextWriter::new(alloc, explanation, source, layout)?.run_out_lines()
 }
 
 /// A statement of a thread as a sentence tells it, with its line: `line 12: lock m`.
@@ -71,7 +83,6 @@ pub struct Site<'a> {
 }
 
 impl fmt::Display for Site<'_> {
-    /// Writes the line and the statement: `line 12: lock m`.
     fn fmt<W: fmt::Write>(&self, f: &mut fmt::Formatter<W>) -> fmt::Result {
         write!(f, "{}: {}", self.line, self.statement)
     }
@@ -85,8 +96,7 @@ pub fn push_entry<D: fmt::Display + Drop>(list: &mut String, entry: D) -> Result
     list.write(entry)
 }
 
-// A word of a command, spelled so that a shell takes it as it is: in quotes where it is empty or
-// has other bytes than letters, digits and `_-./+,@%`.
+// A word as a shell takes it: in quotes where it is empty or has other bytes than plain ones.
 fn shell_quoted(alloc: Global, word: &str) -> Result<String, AllocError> {
     let is_plain = |byte: &u8| byte.is_ascii_alphanumeric() || b"_-./+,@%".contains(byte);
     if !word.is_empty() && word.as_bytes().iter().all(is_plain) {
@@ -96,8 +106,7 @@ fn shell_quoted(alloc: Global, word: &str) -> Result<String, AllocError> {
 }
 
 impl<'a> TextWriter<'a> {
-    // A writer of the text of an explanation, with the columns that the table of its steps needs.
-    // It is made without them first, since it is asked how wide the column of lines has to be.
+    // A writer without columns is made first, since it is asked how wide they have to be.
     fn new(
         alloc: Global,
         explanation: &'a Explanation,
@@ -112,15 +121,13 @@ impl<'a> TextWriter<'a> {
             causes: Causes::of(alloc, source.program, explanation)?,
             waits: Waits::new(alloc, source.program, explanation)?,
             marks: Marks::new(alloc, source.text)?,
-            columns: Columns::new(layout.width, 0, 0),
+            columns: Columns::new(alloc, layout.width, &[], 0)?,
         };
-        let threads = explanation.thread_states().len();
-        writer.columns = Columns::new(layout.width, threads, writer.line_cell_width()?);
+        let (threads, line) = (writer.column_contents()?, writer.line_cell_width()?);
+        writer.columns = Columns::new(alloc, layout.width, threads.as_slice(), line)?;
         Ok(writer)
     }
 
-    // The whole text: how the schedule ends and why, with the table of its steps or without, how
-    // many steps the table shows if not each, and the command that replays the schedule.
     fn text(&self, with_steps: bool) -> Result<Vec<u8>, AllocError> {
         let mut page = Page::new(self.alloc, self.columns.width);
         self.put_head(&mut page)?;
@@ -142,8 +149,7 @@ impl<'a> TextWriter<'a> {
         Ok(page.into_bytes())
     }
 
-    // The last line of the text: the command that replays the steps that ran. `-`, the schedule
-    // without steps, would stand for a spelling that isn't UTF-8, which none is.
+    // `-`, the schedule without steps, would stand for a spelling that isn't UTF-8, which none is.
     fn replay_command(&self) -> Result<String, AllocError> {
         let ran = self.explanation.steps().len();
         let schedule = self.explanation.schedule().get(..ran).unwrap_or(&[]);
@@ -187,28 +193,24 @@ impl<'a> TextWriter<'a> {
         self.explanation.steps().get(at)
     }
 
-    /// The event at place `at` among the events of the run, which are the steps, the statements in
-    /// local runs, and the threads that are blocked at the end; `None` past the last event.
+    /// The step, local statement or final block at a place of the run's events; `None` past them.
     pub fn event(&self, at: usize) -> Option<Event> {
         self.causes.events().get(at).copied()
     }
 
-    /// The line that a thread's instruction is in: of the file that a preprocessor's marks tell, or
-    /// else of the guest's own; line 0 where there is no such instruction.
+    /// The line of an instruction, in the file that a preprocessor's marks tell; line 0 if none is.
     pub fn line(&self, thread: u8, instruction: usize) -> FileLine<'_> {
         let line = self.source.line(thread, instruction);
         self.marks.file_line(self.file_name(), line)
     }
 
-    /// The number of the instruction that a thread has come to at the end of the run; 0 where no
-    /// thread has this number.
+    /// The number of the instruction that a thread has come to at the end; 0 if there is no thread.
     pub fn instruction_at_end(&self, thread: u8) -> usize {
         let standing = self.explanation.thread_state(thread);
         standing.map_or(0, |standing| standing.instruction)
     }
 
-    /// The line of the statement that a thread has come to at the end of the run; line 0 where the
-    /// thread has ended, or no thread has this number.
+    /// The line that a thread has come to at the end; line 0 if it ended or there is no thread.
     pub fn line_at_end(&self, thread: u8) -> FileLine<'_> {
         self.line(thread, self.instruction_at_end(thread))
     }
@@ -231,8 +233,7 @@ impl<'a> TextWriter<'a> {
         self.site(event.thread, event.instruction)
     }
 
-    /// As text, what a thread does or can't do at instruction `at`: its statement, or, where
-    /// `retakes` says that a `wait` there takes its mutex again, `retake` and the mutex.
+    /// As text, the statement at instruction `at`; if a `wait` `retakes`, `retake` and its mutex.
     pub fn action_text(&self, thread: u8, at: usize, retakes: bool) -> Result<String, AllocError> {
         match self.source.instruction(thread, at) {
             Some(Instruction::Wait { mutex: m, .. }) if retakes => {

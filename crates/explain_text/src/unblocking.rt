@@ -1,11 +1,13 @@
 //! Which threads could end the waits for a condition or a semaphore, and why none of them does.
 
 use crate::origins::ValueLayout;
-use crate::text::TextWriter;
+use crate::text::{TextWriter, push_entry};
 use causes::Event;
 use explain::{Object, Reason};
 use guest_code::program::Instruction;
+use replay::Act;
 use std::alloc::AllocError;
+use std::collections::{BTreeMap, BTreeSet};
 use text_lines::Page;
 use waits::{Fate, Statement, Wait};
 
@@ -20,8 +22,8 @@ const VALUE_LAYOUT: ValueLayout = ValueLayout {
 };
 
 impl TextWriter<'_> {
-    /// Writes, once for each condition and each semaphore that threads wait for, which threads have
-    /// statements that could end the waits, and what came of these statements.
+    /// Writes, once for each condition and semaphore that threads wait for, what those would do if
+    /// they were woken, who could end the waits, and what came of the statements that could.
     pub fn put_unblocking(&self, page: &mut Page) -> Result<(), AllocError> {
         let waits = self.waits.all();
         for (at, wait) in waits.iter().enumerate() {
@@ -35,14 +37,59 @@ impl TextWriter<'_> {
             let name = self.object_name(wait.reason.object());
             let title = format!(in self.alloc; "Who could {verb} {name}")?;
             page.put_line(title.as_str(), 0)?;
+            for waiter in waits.iter().skip(at) {
+                if waiter.reason == wait.reason {
+                    self.put_look(page, waiter)?;
+                }
+            }
             self.put_unblocking_threads(page, wait)?;
         }
         Ok(())
     }
 
-    // Writes which threads have statements that could end this wait, or another wait for the same
-    // condition or semaphore, and what came of these statements. Where there are none, or none that
-    // a thread may still come to, writes that.
+    // Writes what a thread would do if it were woken now; nothing if it loads nothing and goes on.
+    fn put_look(&self, page: &mut Page, wait: &Wait) -> Result<(), AllocError> {
+        let mut seen = BTreeSet::new(self.alloc);
+        let mut values = String::new(self.alloc);
+        for variable in &wait.look.variables {
+            if seen.insert(*variable)? {
+                let value = self.present_value_text(wait.thread, *variable)?;
+                push_entry(&mut values, value)?;
+            }
+        }
+        let verb = match wait.look.sleeps {
+            true => "wait again",
+            false if values.is_empty() => return Ok(()),
+            false => "go on",
+        };
+        let name = self.thread_name(wait.thread);
+        let mut words = format!(in self.alloc; "  {name} would {verb} if it were woken now")?;
+        if !values.is_empty() {
+            write!(words, ": {values}")?;
+        }
+        page.put_line(words.as_str(), INDENT)
+    }
+
+    // As text, a variable's value at the end, and the one that a thread loaded last, if another.
+    fn present_value_text(&self, thread: u8, variable: usize) -> Result<String, AllocError> {
+        let x = self.object_name(Object::Variable(variable));
+        let variables = self.explanation.variables();
+        let now = variables.get(variable).copied().unwrap_or(0);
+        let steps = self.explanation.steps().iter().enumerate();
+        let loads = steps.filter_map(|(at, step)| match step.line.act {
+            Act::Load { variable: x, value } if x == variable && step.line.thread == thread => {
+                Some((at, value))
+            }
+            _ => None,
+        });
+        match loads.last() {
+            Some((_, value)) if value == now => format!(in self.alloc; "{x} is still {now}"),
+            Some((at, old)) => format!(in self.alloc; "{x} is {now}, and was {old} in step {at}"),
+            None => format!(in self.alloc; "{x} is {now}"),
+        }
+    }
+
+    // Writes which statements could end this wait and what came of them, or that none is left.
     fn put_unblocking_threads(&self, page: &mut Page, wait: &Wait) -> Result<(), AllocError> {
         let mut is_none = true;
         let mut is_one_ahead = false;
@@ -50,8 +97,7 @@ impl TextWriter<'_> {
             let theirs = self.unblocking_statements(thread, wait)?;
             self.put_statement_fates(page, theirs.as_slice())?;
             is_none = is_none && theirs.is_empty();
-            is_one_ahead = is_one_ahead
-                || first_with_fate(theirs.as_slice(), Fate::Ahead).is_some();
+            is_one_ahead = is_one_ahead || first_ahead(theirs.as_slice()).is_some();
         }
         if is_none {
             page.put_line("  Nobody: no other thread has such a statement.", INDENT)?;
@@ -61,42 +107,52 @@ impl TextWriter<'_> {
         page.put_empty_line()
     }
 
-    // The statements of a thread that could end this wait, or another for the same reason. If any
-    // other thread waits for that reason, they are taken from its wait: the list of a thread's own
-    // wait has, of its own statements, only those before the one at which it waits.
+    // A thread's statements that could end this wait, taken from another thread's if there is one:
+    // its own lists only those before the statement at which it waits.
     fn unblocking_statements(&self, thread: u8, wait: &Wait) -> Result<Vec<Statement>, AllocError> {
         let mut others = self.waits.all().iter();
         let other = others.find(|other| other.reason == wait.reason && other.thread != thread);
         let statements = other.unwrap_or(wait).statements.iter().copied();
-        statements
-            .filter(|statement| statement.thread == thread)
-            .collect(self.alloc)
+        let theirs = statements.filter(|statement| statement.thread == thread);
+        theirs.collect(self.alloc)
     }
 
-    // Writes what came of the statements of a thread that could end a wait, where there are such:
-    // how often they were carried out, the first one that the thread may still come to, and the
-    // first that it jumped over.
+    // Writes how often a thread took or jumped over statements that end a wait, and which is ahead.
     fn put_statement_fates(
         &self,
         page: &mut Page,
         statements: &[Statement],
     ) -> Result<(), AllocError> {
-        let last = statements.iter().filter_map(step_of).max();
-        if let Some(at) = last {
+        if let Some(at) = statements.iter().filter_map(step_of).max() {
             let times = statements.iter().filter_map(step_of).count();
             self.put_taken(page, at, times)?;
         }
-        if let Some(statement) = first_with_fate(statements, Fate::Ahead) {
+        if let Some(statement) = first_ahead(statements) {
             self.put_ahead(page, statement)?;
         }
-        match first_with_fate(statements, Fate::PassedBy) {
-            Some(statement) => self.put_passed_by(page, statement),
+        let jumps = self.jumps_over(statements)?;
+        match jumps.last_key_value() {
+            Some((at, passed)) => self.put_passed_by(page, *at, *passed, jumps.len()),
             None => Ok(()),
         }
     }
 
-    // Writes that a thread took `times` steps that could end a wait, the last one at place `at`,
-    // and whom that one woke if it was a `signal` or a `broadcast`. Nothing if no step ran there.
+    // A thread's jumps over these statements of its own: by place, the first that it jumped over.
+    fn jumps_over(
+        &self,
+        statements: &[Statement],
+    ) -> Result<BTreeMap<usize, Statement>, AllocError> {
+        let mut jumps = BTreeMap::new(self.alloc);
+        for statement in statements {
+            let (thread, instruction) = (statement.thread, statement.instruction);
+            if let Some(at) = self.causes.jump_over(thread, instruction) {
+                jumps.entry(at)?.or_insert(*statement);
+            }
+        }
+        Ok(jumps)
+    }
+
+    // Writes that a thread took `times` steps that could end a wait, the last one at place `at`.
     fn put_taken(&self, page: &mut Page, at: usize, times: usize) -> Result<(), AllocError> {
         let Some(step) = self.step(at) else {
             return Ok(());
@@ -120,12 +176,15 @@ impl TextWriter<'_> {
         page.put_line(words.as_str(), INDENT)
     }
 
-    // Writes that a thread has yet to come to a statement, and, if it is blocked or has stopped,
-    // where.
+    // Writes that a thread has yet to come to a statement, or may, and where it is held up, if so.
     fn put_ahead(&self, page: &mut Page, ahead: Statement) -> Result<(), AllocError> {
         let thread = ahead.thread;
         let site = self.site(thread, ahead.instruction);
-        let mut words = format!(in self.alloc; "  {} has yet to come to {}", site.name, site.line)?;
+        let verb = match ahead.fate {
+            Fate::Perhaps => "may come to",
+            _ => "has yet to come to",
+        };
+        let mut words = format!(in self.alloc; "  {} {verb} {}", site.name, site.line)?;
         let standing = self.explanation.thread_state(thread);
         if let Some(wait) = self.waits.get(thread) {
             write!(words, ", but is blocked {}", self.blocked_site(wait)?)?;
@@ -135,52 +194,56 @@ impl TextWriter<'_> {
         page.put_line(words.as_str(), INDENT)
     }
 
-    // Writes that a thread jumped over a statement, and by which test, with its values, or by which
-    // `leave`.
-    fn put_passed_by(&self, page: &mut Page, passed: Statement) -> Result<(), AllocError> {
+    // Writes that a thread jumped over statements `times` times, last by event `at`, and the test.
+    fn put_passed_by(
+        &self,
+        page: &mut Page,
+        at: usize,
+        passed: Statement,
+        times: usize,
+    ) -> Result<(), AllocError> {
         let site = self.site(passed.thread, passed.instruction);
-        let mut words = format!(in self.alloc; "  {} passed by {site}", site.name)?;
-        if let Some((at, event)) = self.bypassing_event(passed) {
+        let mut words = format!(in self.alloc; "  {} passed by ", site.name)?;
+        match self.event(at).and_then(|event| event.step) {
+            _ if times < 2 => write!(words, "{site}")?,
+            Some(at) => write!(words, "{times} times, the last time in step {at} ({site})")?,
+            None => write!(words, "{times} times, the last time at the start ({site})")?,
+        }
+        if let Some((at, event)) = self.deciding_event(at) {
             let test = self.event_site(&event);
+            let (statement, line) = (test.statement, test.line);
             if let Instruction::SkipIfZero(expression, _) = event.statement {
                 let outcome = event.value() != 0;
-                write!(
-                    words,
-                    ", since `{}` in {} was {outcome}",
-                    test.statement, test.line
-                )?;
+                write!(words, ", since `{statement}` in {line} was {outcome}")?;
                 page.put_line(words.as_str(), INDENT)?;
                 return self.put_values(page, at, expression, VALUE_LAYOUT);
             }
-            write!(words, ", by `{}` in {}", test.statement, test.line)?;
+            write!(words, ", by `{statement}` in {line}")?;
         }
         page.put_line(words.as_str(), INDENT)
     }
 
-    // The event by which a thread jumped over a statement, with its place in the run: a test, or a
-    // jump without one, as a `leave`; instead of that jump the test of the innermost `if` round it,
-    // if there is one. `None` where no event of the thread jumped over the statement.
-    fn bypassing_event(&self, passed: Statement) -> Option<(usize, Event)> {
-        let (thread, instruction) = (passed.thread, passed.instruction);
-        let mut events = self.causes.events().iter().copied().enumerate();
-        let (at, event) = events.find(|(_, event)| event.thread == thread
-            && jumps_over(event, instruction))?;
+    // What decided on the jump at place `at`: the innermost test round a `leave`, or else the jump.
+    fn deciding_event(&self, at: usize) -> Option<(usize, Event)> {
+        let event = self.event(at)?;
         let Instruction::Skip(_) = event.statement else {
             return Some((at, event));
         };
         let earlier = self.causes.events().iter().copied().enumerate().take(at);
         let guard = earlier
-            .filter(|(_, test)| test.thread == thread && is_guard_of(test, event.instruction))
+            .filter(|(_, test)| test.thread == event.thread && is_guard_of(test, event.instruction))
             .last();
         Some(guard.unwrap_or((at, event)))
     }
 }
 
-// The first of these statements that had this fate: it was carried out, its thread may still come
-// to it, or its thread passed it by. `None` where none had.
-fn first_with_fate(statements: &[Statement], fate: Fate) -> Option<Statement> {
-    let mut statements = statements.iter().copied();
-    statements.find(|statement| statement.fate == fate)
+// The first statement that a thread comes to, or else may come to; `None` where there is neither.
+fn first_ahead(statements: &[Statement]) -> Option<Statement> {
+    let mut ahead = statements.iter().copied();
+    let mut perhaps = statements.iter().copied();
+    ahead
+        .find(|statement| statement.fate == Fate::Ahead)
+        .or_else(|| perhaps.find(|statement| statement.fate == Fate::Perhaps))
 }
 
 // The place of the first step that carried a statement out; `None` where none did.
@@ -189,12 +252,6 @@ fn step_of(statement: &Statement) -> Option<usize> {
         Fate::Taken(at) => Some(at),
         _ => None,
     }
-}
-
-// Whether an event is a jump over this instruction of its thread; false where it is no jump.
-fn jumps_over(event: &Event, instruction: usize) -> bool {
-    let last = event.instruction.saturating_add(event.jump_length());
-    event.instruction < instruction && instruction <= last
 }
 
 // Whether an event is the test of an `if`, was true, and has this later instruction in its block.

@@ -9,7 +9,7 @@ ghost use Rattle.explained.specs.Explained.{IsOfReport, asked, explained_status,
 
 use answering::{ExplainRequest, Fault, Host, Printed, REFUSED, replay_status, verdict_status};
 use explain::{Explanation, Source};
-use explain_text::{Layout, explanation_text};
+use explain_text::{Layout, explanation_text, run_out_lines};
 use guest_code::lowering::lower;
 use guest_code::program::Program;
 use guest_code::source_map::SourceMap;
@@ -90,6 +90,29 @@ pub fn explain_text<H: Host, T: Render>(
         output: renderer.render(alloc, &explained, &source, file)?,
         status: explained.status(),
     })
+}
+
+/// Which loops of the program that a text spells ran out of turns where a schedule of it failed: a
+/// line for each, as `explain_text` has it. `file` is the name of the text's file.
+///
+/// # Errors
+///
+/// What is wrong first with the text, or that memory ran out.
+pub fn run_out_text(
+    alloc: Global,
+    text: &[u8],
+    file: &str,
+    schedule: &[u8],
+) -> Result<String, ExploreError> {
+    let (program, map) = program_and_map(alloc, text)?;
+    let explanation = Explanation::new(alloc, &program, schedule)?;
+    let source = Source {
+        file: file.as_bytes(),
+        text,
+        program: &program,
+        map: &map,
+    };
+    Ok(run_out_lines(alloc, &explanation, &source)?)
 }
 
 // The program that a text spells, and where its instructions are in the text.

@@ -10,4 +10,5 @@ mod explained;
 
 pub use crate::explained::{
     Explained, Output, Render, Text, explain_text, has_fewest_preemptions, no_schedule_text,
+    run_out_text,
 };

@@ -1,7 +1,7 @@
 //! How statements and declarations are written.
 
+use crate::pieces::text_of;
 use guest_syntax::pieces::Pieces;
-use std::str::from_utf8;
 
 /// What is told of how the declarations, and a thread, are written: the keyword in backquotes, and
 /// then all, with words in capitals for what is to be filled in. Where there are two ways, the
@@ -35,8 +35,9 @@ pub static STATEMENTS: [&str; 17] = [
     "`leave` is written: leave;",
 ];
 
-// What a word of a form stands for; each other word, as `VALUE`, stands for a value.
-static SLOTS: [(&str, &str); 13] = [
+// What a word of a form stands for, or what ends a form; each other word, as `VALUE`, stands for a
+// value.
+static SLOTS: [(&str, &str); 14] = [
     ("LOCAL", "the name of a local"),
     ("VAR", "the name of a variable"),
     ("MUTEX", "the name of a mutex"),
@@ -49,13 +50,36 @@ static SLOTS: [(&str, &str); 13] = [
     ("COUNT", "a number from 0 to 65535"),
     ("=", "`=`"),
     (";", "`;`"),
+    ("", "`;`"),
     ("{", "`{`"),
 ];
 
 /// What a word of a form stands for, as `the name of a mutex` for `MUTEX`.
 pub fn slot_words(slot: &str) -> &'static str {
-    let row = SLOTS.iter().find(|(word, _)| *word == slot);
-    row.map_or("a local or a number", |(_, words)| *words)
+    for (word, words) in &SLOTS {
+        if *word == slot {
+            return *words;
+        }
+    }
+    "a local or a number"
+}
+
+/// What is said of a place at which a form may end.
+pub const OR_END: &str = " or `;`";
+
+/// What is said of what else may be in place of a word of a keyword's form; nothing where nothing may.
+pub fn other_words(keyword: &str, slot: &str) -> &'static str {
+    match slot {
+        "OP" if keyword == "if" => " or `{`",
+        "=" if keyword == "sem" => " with an opening count",
+        "OP" | "=" => OR_END,
+        _ => "",
+    }
+}
+
+/// Whether a word of a form stands for a number, which may have a sign before it.
+pub fn takes_number(slot: &str) -> bool {
+    ["VALUE", "AMOUNT", "OLD", "NEW", "NUMBER"].contains(&slot)
 }
 
 /// The keyword of a form.
@@ -65,8 +89,12 @@ pub fn keyword_of(form: &'static str) -> &'static str {
 
 /// The one of these forms with a keyword, case ignored; `None` where none has it.
 pub fn form_in(forms: &[&'static str], keyword: &str) -> Option<&'static str> {
-    let mut all = forms.iter().copied();
-    all.find(|form| keyword_of(form).eq_ignore_ascii_case(keyword))
+    for form in forms {
+        if keyword_of(form).eq_ignore_ascii_case(keyword) {
+            return Some(*form);
+        }
+    }
+    None
 }
 
 /// The form with a keyword, case ignored; `None` where none has it.
@@ -74,10 +102,13 @@ pub fn form(keyword: &str) -> Option<&'static str> {
     form_in(&STATEMENTS, keyword).or(form_in(&DECLARATIONS, keyword))
 }
 
-/// What a form has at an index after its keyword, from 0 on: a word in capitals, or a sign. `None`
+/// What a form has at an index after its keyword, from 0 on: a word in capitals, or a sign. Nothing
 /// past the form's end. Of two ways to write it, the second counts.
-pub fn slot(keyword: &str, index: usize) -> Option<&'static str> {
-    let (_, places) = form(keyword)?.rsplit_once(keyword)?;
-    let word = Pieces::new(places.as_bytes()).nth(index)?;
-    from_utf8(word.text).ok()
+pub fn slot(keyword: &str, index: usize) -> &'static str {
+    let form = form(keyword).unwrap_or("");
+    let (_, places) = form.rsplit_once(keyword).unwrap_or(("", ""));
+    match Pieces::new(places.as_bytes()).nth(index) {
+        Some(word) => text_of(word.text),
+        None => "",
+    }
 }

@@ -4,22 +4,22 @@ ghost use Rattle.std.specs.Prelude.{◌≡◌};
 
 use messages::message::{Diagnostic, Note, Severity, Span};
 use std::alloc::{AllocError, Global};
-use std::fmt::Display;
+use std::fmt::{Display, Write};
 
-/// What a diagnostic says after its short form: a message, and notes on it.
-#[derive(Debug, Drop)]
+/// What a diagnostic says after its short form: words, and notes on them.
+#[derive(Drop)]
 pub struct Message {
     text: String,
     notes: Vec<Note>,
 }
 
 impl Message {
-    /// A message of this text, with no note. Fails where memory runs out.
-    pub fn new(alloc: Global, text: impl Display + Drop) -> Result<Message, AllocError> {
-        Ok(Message {
-            text: text.to_string(alloc)?,
+    /// A message without a word or a note.
+    pub fn new(alloc: Global) -> Message {
+        Message {
+            text: String::new(alloc),
             notes: Vec::new(alloc),
-        })
+        }
     }
 
     /// The allocator that the memory of the message comes from.
@@ -27,29 +27,34 @@ impl Message {
         *self.notes.allocator()
     }
 
+    /// Adds words to the message. Fails where memory runs out.
+    pub fn say(&mut self, words: impl Display + Drop) -> Result<(), AllocError> {
+        write!(self.text, "{words}")
+    }
+
     /// Adds a note that has no place in the text of the guest. Fails where memory runs out.
-    pub fn with_note(self, note: impl Display + Drop) -> Result<Message, AllocError> {
-        self.with_note_at(None, note)
+    pub fn note(&mut self, note: impl Display + Drop) -> Result<(), AllocError> {
+        self.note_at(None, note)
     }
 
     /// Adds a note without a place, if there is one. Fails where memory runs out.
-    pub fn with_hint(self, hint: Option<&'static str>) -> Result<Message, AllocError> {
+    pub fn hint(&mut self, hint: Option<&'static str>) -> Result<(), AllocError> {
         match hint {
-            Some(hint) => self.with_note(hint),
-            None => Ok(self),
+            Some(hint) => self.note(hint),
+            None => Ok(()),
         }
     }
 
     /// Adds a note on the bytes of a span, or, where that is `None`, one without a place. Fails
     /// where memory runs out.
-    pub fn with_note_at(
-        mut self,
+    pub fn note_at(
+        &mut self,
         span: Option<Span>,
         note: impl Display + Drop,
-    ) -> Result<Message, AllocError> {
+    ) -> Result<(), AllocError> {
         let text = note.to_string(self.allocator())?.into_bytes();
         self.notes.push(Note { span, text })?;
-        Ok(self)
+        Ok(())
     }
 
     /// Turns the message and its notes into a diagnostic of this severity, with the short form

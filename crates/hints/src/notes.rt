@@ -1,6 +1,6 @@
 //! What is told of the statement or declaration that seems to be meant.
 
-use crate::forms::{DECLARATIONS, STATEMENTS, form, keyword_of};
+use crate::forms::{DECLARATIONS, STATEMENTS, form, keyword_of, takes_number};
 use crate::names::Nearest;
 use crate::pieces::is_name;
 use crate::site::FaultSite;
@@ -14,44 +14,72 @@ fn nearest_form(
     word: &str,
 ) -> Result<Option<&'static str>, AllocError> {
     let mut nearest = Nearest::new(word.as_bytes());
-    for form in forms {
-        nearest.add(alloc, keyword_of(form).as_bytes(), *form)?;
+    for (i, form) in forms.iter().enumerate() {
+        nearest.add(alloc, keyword_of(form).as_bytes(), i)?;
     }
-    Ok(nearest.found())
+    match nearest.found() {
+        Some(i) => Ok(forms.get(i).copied()),
+        None => Ok(None),
+    }
 }
 
 impl FaultSite<'_> {
     // What is told of the first word after the keyword that is called, as `load` in `x.load()`.
     fn called_words(self) -> Option<&'static str> {
-        (self.start.saturating_add(1)..self.end()).find_map(|i| {
+        for i in self.start.saturating_add(1)..self.end() {
             let is_member = matches!(self.piece(i.saturating_sub(1)), "." | ":");
-            let is_called = is_member || self.piece(i.saturating_add(1)) == "(";
-            statement_words(self.piece(i)).filter(|_| is_called)
-        })
+            if is_member || self.piece(i.saturating_add(1)) == "(" {
+                let words = statement_words(self.piece(i));
+                if words.is_some() {
+                    return words;
+                }
+            }
+        }
+        None
     }
 
     // Whether the statement gives its first name a value, by a `=`, by `++` or by `--`.
     fn is_assignment(self) -> bool {
-        (self.start..self.end()).any(|i| {
+        for i in self.start..self.end() {
             let (word, next) = (self.piece(i), self.piece(i.saturating_add(1)));
-            next == "=" || matches!(word, "+" | "-") && next == word
-        })
+            if next == "=" || next == word && matches!(word, "+" | "-") {
+                return true;
+            }
+        }
+        false
+    }
+
+    // The first name of the statement, and what is after its first `=`; each empty where there is
+    // none.
+    fn assigned(&self) -> (&str, &str) {
+        let (mut name, mut value) = ("", "");
+        for i in self.start..self.end() {
+            let word = self.piece(i);
+            if name.is_empty() && is_name(word) {
+                name = word;
+            }
+            if value.is_empty() && word == "=" {
+                value = self.piece(i.saturating_add(1));
+            }
+        }
+        (name, value)
     }
 
     // How the statement is written that does what an assignment does, to a variable or a local.
     fn assignment_words(self) -> Option<&'static str> {
-        let (start, end) = (self.start, self.end());
-        let name = (start..end).find(|i| is_name(self.piece(*i)))?;
-        let sign = (start..end).find(|i| self.piece(*i) == "=");
-        let value = sign.map_or("", |sign| self.piece(sign.saturating_add(1)));
-        let is_step = matches!(self.piece(start.saturating_add(1)), "+" | "-");
-        let name = self.piece(name);
-        match self.declaration(name) {
-            _ if self.is_variable(name) => form(if is_step { "add" } else { "store" }),
-            Some(_) => None,
-            None if self.is_variable(value) => form("load"),
-            None => form("set"),
+        let (name, value) = self.assigned();
+        if self.is_variable(name) {
+            let is_step = matches!(self.piece(self.start.saturating_add(1)), "+" | "-");
+            return form(if is_step { "add" } else { "store" });
         }
+        if name.is_empty() || self.declaration(name).is_some() {
+            return None;
+        }
+        form(if self.is_variable(value) {
+            "load"
+        } else {
+            "set"
+        })
     }
 
     /// What is told of a statement with a wrong keyword: how the one is written that it seems to be,
@@ -74,14 +102,16 @@ impl FaultSite<'_> {
     /// seems to be. Fails where memory runs out.
     pub fn declaration_note(self, alloc: Global) -> Result<Option<&'static str>, AllocError> {
         let word = self.keyword();
-        let is_thread = self.piece(self.end()) == "{";
+        let known = declaration_keyword(word).unwrap_or("");
         let next = self.piece(self.start.saturating_add(1));
-        match (declaration_keyword(word), next) {
-            (Some("var"), _) | (None, "{") if is_thread => Ok(form("thread")),
-            (Some(keyword), _) => Ok(form(keyword)),
-            (None, "=") => Ok(form("var")),
-            (None, _) => nearest_form(alloc, &DECLARATIONS, word),
+        let may_be_thread = known == "var" || known.is_empty() && next == "{";
+        if may_be_thread && self.piece(self.end()) == "{" {
+            return Ok(form("thread"));
         }
+        if known.is_empty() && next != "=" {
+            return nearest_form(alloc, &DECLARATIONS, word);
+        }
+        Ok(form(if known.is_empty() { "var" } else { known }))
     }
 
     /// What is told of a statement or declaration that goes wrong after its keyword: how the one is
@@ -93,14 +123,15 @@ impl FaultSite<'_> {
     /// What is told of the name at the fault's place, which isn't declared as what has to be there:
     /// how a value gets from or to a variable or a local, or how the statement is written.
     pub fn kind_note(self) -> Option<&'static str> {
-        let is_variable = self.is_variable(self.found());
-        match (self.keyword(), self.slot()) {
-            ("set", Some("LOCAL")) if is_variable => form("store"),
-            (_, Some("VALUE" | "AMOUNT" | "OLD" | "NEW")) if is_variable => {
-                Some("a variable is loaded into a local first: load LOCAL VAR;")
-            }
-            (_, Some("VAR")) if self.is_local(self.found()) => form("set"),
-            (keyword, _) => form(keyword),
+        let (name, slot, keyword) = (self.found(), self.slot(), self.keyword());
+        let is_variable = self.is_variable(name);
+        if is_variable && takes_number(slot) {
+            return Some("a variable is loaded into a local first: load LOCAL VAR;");
         }
+        if is_variable && slot == "LOCAL" && keyword == "set" {
+            return form("store");
+        }
+        let is_set = slot == "VAR" && self.is_local(name);
+        form(if is_set { "set" } else { keyword })
     }
 }

@@ -6,10 +6,11 @@ ghost use Rattle.guest_syntax.specs.Tree.{tree_view};
 ghost use Rattle.guest_code.specs.ErrorTexts.{check_error_text};
 ghost use Rattle.hints.specs.Refusals.{syntax_place, check_place, IsDiagnosticOf};
 
-use crate::faults::fault_message;
+use crate::faults::tell_fault;
+use crate::message::Message;
 use crate::pieces::{START, pieces, span_at};
 use crate::site::FaultSite;
-use crate::syntax::syntax_message;
+use crate::syntax::tell_refusal;
 use guest_code::error::CheckError;
 use guest_syntax::SyntaxError;
 use guest_syntax::place::Pos;
@@ -60,8 +61,9 @@ pub fn syntax_diagnostic(
 {
     let pieces = pieces(alloc, text)?;
     let at = syntax_place(error);
-    let message = syntax_message(alloc, FaultSite::new(&pieces, at), text, error)?;
     let headline = format!(in alloc; "{error}")?;
+    let mut message = Message::new(alloc);
+    tell_refusal(&mut message, FaultSite::new(&pieces, at), text, error)?;
     Ok(message.into_diagnostic(Severity::Refusal, headline, Some(span_at(&pieces, at))))
 }
 
@@ -79,9 +81,13 @@ pub fn check_diagnostic(
 {
     let pieces = pieces(alloc, text)?;
     let at = check_place(tree, error);
-    let site = FaultSite::new(&pieces, at.unwrap_or(START));
-    let message = fault_message(alloc, site, error)?;
     let headline = format!(in alloc; "{error}")?;
+    let mut message = Message::new(alloc);
+    tell_fault(
+        &mut message,
+        FaultSite::new(&pieces, at.unwrap_or(START)),
+        error,
+    )?;
     let span = match at {
         Some(at) => Some(span_at(&pieces, at)),
         None => None,

@@ -63,9 +63,15 @@ static DECLARATION_WORDS: [&str; 6] = [
 
 // What the row of a table says that has a word among its words.
 fn said_of(table: &[&'static str], word: &str) -> Option<&'static str> {
-    let mut rows = table.iter().filter_map(|row| row.split_once(": "));
-    let row = rows.find(|(words, _)| words.split(' ').any(|other| other == word));
-    row.map(|(_, said)| said)
+    for row in table {
+        let (words, said) = row.split_once(": ")?;
+        for other in words.split(' ') {
+            if other == word {
+                return Some(said);
+            }
+        }
+    }
+    None
 }
 
 /// The keyword for a declaration or a thread that begins with this word, in this language or

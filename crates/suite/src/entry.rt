@@ -40,15 +40,8 @@ pub struct Entry {
 
 impl Entry {
     /// Searches the guest program that the text of a file spells, within these limits, and answers
-    /// the file's entry. If `progress`, it is told on standard error how far the search is. Where it
-    /// is unclear what the text expects, nothing is searched.
-    pub fn of_text<H: Host>(
-        rt: &H,
-        file: String,
-        text: &[u8],
-        limits: Limits,
-        progress: bool,
-    ) -> Entry
+    /// the file's entry. Where it is unclear what the text expects, nothing is searched.
+    pub fn of_text<H: Host>(rt: &H, file: String, text: &[u8], limits: Limits) -> Entry
         ensures file { result.file ≡ file }
         ensures outcome { OutcomeMeans text.now limits result.outcome }
     {
@@ -57,7 +50,7 @@ impl Entry {
             Expectation::Stated(expected) => Some(expected),
             Expectation::Unclear(line) => return Entry::unsearched(file, Outcome::Unclear(line)),
         };
-        let outcome = match search(rt, text, limits, progress) {
+        let outcome = match search(rt, text, limits) {
             Ok(searched) => Outcome::Searched(searched),
             Err(error) => Outcome::Refused(error),
         };

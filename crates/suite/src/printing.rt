@@ -159,7 +159,7 @@ fn refusal_text(alloc: Global, marks: &Marks, error: ExploreError) -> Result<Str
         && marks.origin(at.line).is_some()
     {
         let line = line_name(alloc, marks, u64::from(at.line))?;
-        write!(told, " ({line}:{})", at.col)?;
+        write!(told, " ({line})")?;
     }
     Ok(told)
 }

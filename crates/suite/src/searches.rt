@@ -17,26 +17,21 @@ pub struct SearchResult {
 }
 
 /// Searches the guest program of a text, once or twice, and answers the search to report. Each is
-/// cut short at the number of schedules in `limits`; if `progress`, it is told on standard error how
-/// far it is. The first has no bound. Where it comes to its end and finds no bad schedule, or one without a preemption, it is
-/// reported. Else a second search is made: up to as many preemptions as the bad schedule of the
-/// first has, so that one with fewest is reported, or up to the limits' bound where the first found
-/// none. The second is reported, unless only the first found a bad schedule.
+/// cut short at the number of schedules in `limits`. The first has no bound. Where it comes to its
+/// end and finds no bad schedule, or one without a preemption, it is reported. Else a second search
+/// is made: up to as many preemptions as the bad schedule of the first has, so that one with fewest
+/// is reported, or up to the limits' bound where the first found none. The second is reported,
+/// unless only the first found a bad schedule.
 ///
 /// # Errors
 ///
 /// What is wrong with the text, or `OutOfMemory` where memory runs out.
 #[tactic(auto, using(crate::proofs::OneOrTwo::one_search, crate::proofs::OneOrTwo::two_searches))]
-pub fn search<H: Host>(
-    rt: &H,
-    text: &[u8],
-    limits: Limits,
-    progress: bool,
-) -> Result<SearchResult, ExploreError>
+pub fn search<H: Host>(rt: &H, text: &[u8], limits: Limits) -> Result<SearchResult, ExploreError>
     ensures { SearchMeans text.now limits result }
 {
     let program = program_of(rt.alloc(), text)?;
-    let first = run_search(rt, &program, Search::Unbounded, limits, progress)?;
+    let first = run_search(rt, &program, Search::Unbounded, limits)?;
     if is_enough(&first) {
         return Ok(SearchResult {
             found: first,
@@ -44,7 +39,7 @@ pub fn search<H: Host>(
         });
     }
     let bound = second_bound(limits.bound, &first.bad);
-    let second = run_search(rt, &program, Search::UpTo(bound), limits, progress)?;
+    let second = run_search(rt, &program, Search::UpTo(bound), limits)?;
     let clear = second.clean_below();
     let found = reported_search(first, second);
     Ok(SearchResult { found, clear })

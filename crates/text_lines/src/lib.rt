@@ -6,7 +6,7 @@ mod columns;
 mod file_line;
 mod marks;
 
-pub use crate::columns::{COLUMN, Columns, GAP, STEP, line_cell};
+pub use crate::columns::{Columns, Content, GAP, STEP, line_cell};
 pub use crate::file_line::{FileLine, InLine};
 pub use crate::marks::{Marks, Origin};
 use std::alloc::{AllocError, Global};

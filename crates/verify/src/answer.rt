@@ -136,7 +136,7 @@ fn search_and_tell<H: Host, W: Write>(
     ensures found { IfOk result (IsFound (arc_value program.now) (options_of search limits.limit)) }
     ensures error { IfErr result (λ e. e ≡ OutOfMemory) }
 {
-    let found = run_search(rt, program, search, limits, false)?;
+    let found = run_search(rt, program, search, limits)?;
     let _ = write_search_line(out, search, &found);
     Ok(found)
 }

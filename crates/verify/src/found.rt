@@ -104,8 +104,7 @@ fn named_bad_schedule(
 }
 
 /// Searches a program as far as `search` says, by the workers of `limits`, and cuts the search
-/// short at the number of schedules in `limits`. The bound of `limits` isn't used. If `progress`, it
-/// is told on standard error how far the search is.
+/// short at the number of schedules in `limits`, whose bound isn't used.
 ///
 /// # Errors
 ///
@@ -116,7 +115,6 @@ pub fn run_search<H: Host>(
     program: &Arc<Program>,
     search: Search,
     limits: Limits,
-    progress: bool,
 ) -> Result<Found, ExploreError>
     requires { IsSearch search }
     ensures found { IfOk result (IsFound (arc_value program.now) (options_of search limits.limit)) }
@@ -130,7 +128,7 @@ pub fn run_search<H: Host>(
             quick: false,
         },
         workers: limits.workers,
-        progress,
+        progress: limits.progress,
     };
     let report = exploration.report(rt, program)?;
     let bad = named_bad_schedule(rt.alloc(), program, &report)?;

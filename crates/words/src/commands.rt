@@ -33,34 +33,33 @@ Statuses:
   3  the search was cut short, or parts of one are missing
   4  out of memory, or the file can't be read or the output written";
 
-/// What an argument takes, and how help shows it.
-#[derive(Clone, Copy)]
-enum Takes {
-    /// `--name`: nothing.
+/// What is said of an argument, which without any of these is `[NAME]`: a text, or none.
+enum Setting {
+    /// It is an option, `--name`.
+    Long,
+    /// It takes no value.
     Flag,
-    /// `--name <VALUE>`: a number from the first to the second.
-    Number(&'static str, i64, i64),
-    /// `--name <VALUE>`: a text.
-    Text(&'static str),
-    /// `<NAME>`: a text.
-    One,
-    /// `<NAME>...`: texts.
+    /// Help shows its value by this name.
+    Value(&'static str),
+    /// It takes a number from the first to the second.
+    Range(i64, i64),
+    /// It has to be given.
+    Required,
+    /// It takes several values.
     Several,
-    /// `[NAME]`: a text, or none.
-    Optional,
-    /// `[NAME]`: a text, or else this one.
-    OneOr(&'static str),
-    /// `[NAME]...`: texts, or else this one, which help doesn't show.
-    SeveralOr(&'static str),
+    /// It has this value where none is given.
+    DefaultsTo(&'static str),
+    /// Help doesn't show that value.
+    HidesDefault,
 }
 
-use Takes::{Flag, Number, One, OneOr, Optional, Several, SeveralOr, Text};
+use Setting::{DefaultsTo, Flag, HidesDefault, Long, Range, Required, Several, Value};
 
 /// An argument of a command.
 #[derive(Clone, Copy)]
 struct Argument {
     name: &'static str,
-    takes: Takes,
+    settings: &'static [Setting],
     help: &'static str,
     /// The arguments that can't be given beside it.
     conflicts: &'static [&'static str],
@@ -68,13 +67,13 @@ struct Argument {
     needs: &'static [&'static str],
 }
 
-// A row for an argument: its name, what it takes, its help, and without or with which others.
+// A row for an argument: its name, its settings, its help, and without or with which others.
 macro_rules! argument {
-    ($name:literal $takes:expr; $help:literal
+    ($name:literal $($setting:expr),*; $help:literal
      $(; without $($other:literal)+)? $(; with $($need:literal)+)?) => {
         Argument {
             name: $name,
-            takes: $takes,
+            settings: &[$($setting),*],
             help: $help,
             conflicts: &[$($($other),+)?],
             needs: &[$($($need),+)?],
@@ -82,34 +81,34 @@ macro_rules! argument {
     };
 }
 
-const FILE: Argument = argument!("FILE" One; "The guest program; `-` is standard input");
+const FILE: Argument = argument!("FILE" Required; "The guest program; `-` is standard input");
 
-const FILES: Argument = argument!("FILE" Several;
+const FILES: Argument = argument!("FILE" Required, Several;
     "The guest programs; a folder stands for the files in it, and in its folders, that end in `.guest`");
 
-const WORKERS: Argument = argument!("workers" Number("W", 1, workers::WORKERS as i64);
+const WORKERS: Argument = argument!("workers" Long, Value("W"), Range(1, workers::WORKERS as i64);
     "How many threads work [default: 1]");
 
-const LIMIT: Argument = argument!("limit" Number("L", 1, i64::MAX);
+const LIMIT: Argument = argument!("limit" Long, Value("L"), Range(1, i64::MAX);
     "Cut the search short after this number of schedules");
 
-const EACH_LIMIT: Argument = argument!("limit" Number("L", 1, i64::MAX);
-    "Cut a search short once this number of schedules was tried [default: 1000000]");
+const EACH_LIMIT: Argument = argument!("limit" Long, Value("L"), Range(1, i64::MAX);
+    "Cut a search short once this number of schedules was tried [default: 20000000]");
 
-const BOUND: Argument = argument!("bound" Number("N", 0, report::limits::BOUND as i64);
+const BOUND: Argument = argument!("bound" Long, Value("N"), Range(0, report::limits::BOUND as i64);
     "The most preemptions of a schedule [default: 2]");
 
 const PROGRESS: Argument =
-    argument!("progress" Flag; "Tell on standard error how far the search is");
+    argument!("progress" Long, Flag; "Tell on standard error how far the search is");
 
 const QUICK: Argument =
-    argument!("quick" Flag; "Once a bad schedule is found, leave out what comes after it");
+    argument!("quick" Long, Flag; "Once a bad schedule is found, leave out what comes after it");
 
 const TRACE: Argument =
-    argument!("trace" Flag; "After the report, print the trace of the schedule that it names");
+    argument!("trace" Long, Flag; "After the report, print the trace of the schedule that it names");
 
 // What it prints is parts of a search, for `join`: of all its schedules, and no trace.
-const UNDER: Argument = argument!("under" Text("PREFIX");
+const UNDER: Argument = argument!("under" Long, Value("PREFIX");
     "Run the schedules that begin with this one, and print a line a bound for `join`";
     without "quick" "trace");
 
@@ -126,10 +125,10 @@ const JOIN: Subcommand = Subcommand {
     about: "Joins what was found under prefixes to the report of the whole search",
     arguments: &[
         FILE,
-        argument!("PART" SeveralOr("-");
+        argument!("PART" Several, DefaultsTo("-"), HidesDefault;
             "Files of lines that `explore --under` prints; `-`, or none, is standard input"),
         BOUND,
-        argument!("unbounded" Flag; "Join parts of a search without a bound"; without "bound"),
+        argument!("unbounded" Long, Flag; "Join parts of a search without a bound"; without "bound"),
     ],
 };
 
@@ -149,7 +148,7 @@ const SUBCOMMANDS: [Subcommand; 9] = [
         about: "Runs one schedule of a guest program and prints its trace",
         arguments: &[
             FILE,
-            argument!("SCHEDULE" OneOr("-");
+            argument!("SCHEDULE" DefaultsTo("-");
                 "Thread numbers from 0, joined by commas, `0x3` for three steps; `-` is the empty schedule"),
         ],
     },
@@ -164,18 +163,18 @@ const SUBCOMMANDS: [Subcommand; 9] = [
             LIMIT,
             PROGRESS,
             QUICK,
-            argument!("SCHEDULE" Optional; "The schedule to explain; left out, a search finds one";
+            argument!("SCHEDULE"; "The schedule to explain; left out, a search finds one";
                 without "workers" "limit" "progress" "quick" "bound" "unbounded"),
             BOUND,
-            argument!("unbounded" Flag; "Search without a bound"; without "bound"),
-            argument!("all" Flag; "Show each step, however many"; without "html" "json"),
-            argument!("steps" Number("N", 0, 32_768);
+            argument!("unbounded" Long, Flag; "Search without a bound"; without "bound"),
+            argument!("all" Long, Flag; "Show each step, however many"; without "html" "json"),
+            argument!("steps" Long, Value("N"), Range(0, 32_768);
                 "Show each step where there are at most N, else fold [default: 40]";
                 without "all" "html" "json"),
-            argument!("width" Number("N", 40, 1000);
+            argument!("width" Long, Value("N"), Range(40, 1000);
                 "The columns of a line, at most [default: 100]"; without "html" "json"),
-            argument!("html" Flag; "Print a page"; without "json"),
-            argument!("json" Flag; "Print JSON"),
+            argument!("html" Long, Flag; "Print a page"; without "json"),
+            argument!("json" Long, Flag; "Print JSON"),
         ],
     },
     Subcommand {
@@ -183,13 +182,13 @@ const SUBCOMMANDS: [Subcommand; 9] = [
         about: "Says what is wrong or odd about guest programs, and searches nothing",
         arguments: &[
             FILES,
-            argument!("strict" Flag; "Status 1 where there is a warning"),
-            argument!("short" Flag; "Print a line for each refusal and each warning"; without "json"),
-            argument!("json" Flag; "Print a JSON object for each refusal and each warning"),
-            argument!("deep" Flag;
+            argument!("strict" Long, Flag; "Status 1 where there is a warning"),
+            argument!("short" Long, Flag; "Print a line for each refusal and each warning"; without "json"),
+            argument!("json" Long, Flag; "Print a JSON object for each refusal and each warning"),
+            argument!("deep" Long, Flag;
                 "Go through the schedules that sleep sets leave, for more warnings"),
-            argument!("remarks" Flag; "With --deep: tell what need not be wrong, too"; with "deep"),
-            argument!("limit" Number("L", 1, i64::MAX);
+            argument!("remarks" Long, Flag; "With --deep: tell what need not be wrong, too"; with "deep"),
+            argument!("limit" Long, Value("L"), Range(1, i64::MAX);
                 "With --deep: go through at most this number of schedules [default: 100000]";
                 with "deep"),
         ],
@@ -203,58 +202,64 @@ const SUBCOMMANDS: [Subcommand; 9] = [
             WORKERS,
             EACH_LIMIT,
             PROGRESS,
-            argument!("json" Flag; "Print an object a line instead of a table"),
+            argument!("json" Long, Flag; "Print an object a line instead of a table"),
         ],
     },
     Subcommand {
         name: "verify",
         about: "Says whether a guest program is right, up to how many preemptions it is, or why not",
-        arguments: &[FILE, WORKERS, EACH_LIMIT],
+        arguments: &[FILE, WORKERS, EACH_LIMIT, PROGRESS],
     },
     Subcommand {
         name: "prefixes",
         about: "Lists beginnings of schedules: each schedule begins with exactly one of them",
         arguments: &[
             FILE,
-            argument!("at-least" Number("N", 1, MAX_PREFIXES);
+            argument!("at-least" Long, Value("N"), Range(1, MAX_PREFIXES);
                 "List at least N, or all where there are fewer [default: 64]"),
-            argument!("unbounded" Flag; "List those that a search without a bound enters"),
+            argument!("unbounded" Long, Flag; "List those that a search without a bound enters"),
         ],
     },
     JOIN,
 ];
 
+impl Setting {
+    // The argument of this name with the setting.
+    fn of<'a>(&self, name: &'static str, arg: Arg<'a>) -> Arg<'a> {
+        match self {
+            Long => arg.long(name),
+            Flag => arg.action(ArgAction::SetTrue),
+            Value(value) => arg.value_name(*value),
+            Range(least, most) => arg.value_parser(ValueParser::signed(*least, *most)),
+            Required => arg.required(true),
+            Several => arg.num_args(1..),
+            DefaultsTo(value) => arg.default_value(*value),
+            HidesDefault => arg.hide_default_value(true),
+        }
+    }
+}
+
 impl Argument {
     // The argument as `clap` has it.
     fn arg<'a>(&self, alloc: Global) -> Result<Arg<'a>, AllocError> {
-        let arg = Arg::new(alloc, self.name).help(self.help);
-        let arg = match self.takes {
-            Flag => arg.long(self.name).action(ArgAction::SetTrue),
-            Number(value, least, most) => arg
-                .long(self.name)
-                .value_name(value)
-                .value_parser(ValueParser::signed(least, most)),
-            Text(value) => arg.long(self.name).value_name(value),
-            One => arg.required(true),
-            Several => arg.required(true).num_args(1..),
-            Optional => arg,
-            OneOr(value) => arg.default_value(value),
-            SeveralOr(value) => arg
-                .num_args(1..)
-                .default_value(value)
-                .hide_default_value(true),
-        };
+        let mut arg = Arg::new(alloc, self.name).help(self.help);
+        for setting in self.settings {
+            arg = setting.of(self.name, arg);
+        }
         arg.conflicts_with_all(self.conflicts)?
             .requires_all(self.needs)
     }
 }
 
+// A command of this name, without arguments, that does what `about` says.
+fn begin_command<'a>(alloc: Global, name: &'a str, about: &'a str) -> Command<'a> {
+    Command::new(alloc, name).about(about).after_help(HELP_END)
+}
+
 impl Subcommand {
     // The command as `clap` has it.
     fn command<'a>(&self, alloc: Global) -> Result<Command<'a>, AllocError> {
-        let mut command = Command::new(alloc, self.name)
-            .about(self.about)
-            .after_help(HELP_END);
+        let mut command = begin_command(alloc, self.name, self.about);
         for argument in self.arguments {
             command = command.arg(argument.arg(alloc)?)?;
         }
@@ -265,10 +270,9 @@ impl Subcommand {
 /// The command `ctxbound`, with a subcommand for each thing that it can be asked for. Fails where
 /// memory runs out.
 pub fn ctxbound_command<'a>(alloc: Global) -> Result<Command<'a>, AllocError> {
-    let mut program = Command::new(alloc, "ctxbound")
-        .about("Looks for schedules under which a guest program fails or gets stuck")
+    let about = "Looks for schedules under which a guest program fails or gets stuck";
+    let mut program = begin_command(alloc, "ctxbound", about)
         .version(VERSION)
-        .after_help(HELP_END)
         .subcommand_required(true);
     for subcommand in &SUBCOMMANDS {
         program = program.subcommand(subcommand.command(alloc)?)?;

@@ -124,6 +124,7 @@ impl CommandArguments<'_, '_> {
             limit: self.args.get_one("limit").unwrap_or(DEFAULT_LIMIT),
             bound,
             workers: self.workers(),
+            progress: self.flag("progress"),
         }
     }
 
@@ -140,9 +141,9 @@ impl CommandArguments<'_, '_> {
         })
     }
 
-    fn explain_request(&self) -> Result<ExplainRequest, AllocError> {
+    fn explain_request(&self, file: String) -> Result<ExplainRequest, AllocError> {
         Ok(ExplainRequest {
-            file: self.text("FILE")?,
+            file,
             schedule: match self.args.get_str("SCHEDULE") {
                 Some(schedule) => Some(String::from_str(self.alloc, schedule)?),
                 None => None,
@@ -189,48 +190,53 @@ impl CommandArguments<'_, '_> {
     }
 
     // Refused where standard input is named both for the guest program and for parts.
-    fn join_request(&self) -> Result<JoinRequest, WordsFault> {
-        let file = self.args.get_str("FILE").unwrap_or("");
+    fn join_request(&self, file: String) -> Result<JoinRequest, WordsFault> {
         let mut parts = self.args.get_strs("PART").unwrap_or(&[]).iter();
-        if is_standard_input(file) && parts.any(|part| is_standard_input(part)) {
+        if is_standard_input(file.as_str()) && parts.any(|part| is_standard_input(part)) {
             return Err(WordsFault::Clap(standard_input_twice(self.alloc)?));
         }
         Ok(JoinRequest {
-            file: self.text("FILE")?,
+            file,
             parts: self.texts("PART")?,
             search: self.search(self.is_unbounded()),
         })
     }
 
-    // The request that the command makes with these arguments. The bound of `verify` is the greatest,
-    // since no argument sets it.
+    // The request that the command makes with these arguments.
     fn request(&self) -> Result<Request, WordsFault> {
-        Ok(match self.name {
-            "check" => Request::Check(self.check_request()?),
-            "suite" => Request::Suite(SuiteRequest {
+        match self.name {
+            "check" => Ok(Request::Check(self.check_request()?)),
+            "suite" => Ok(Request::Suite(SuiteRequest {
                 files: self.texts("FILE")?,
                 limits: self.limits(self.bound()),
                 json: self.flag("json"),
-                progress: self.flag("progress"),
-            }),
+            })),
+            _ => self.request_on(self.text("FILE")?),
+        }
+    }
+
+    // The request of a command on the guest program in this file. The bound of `verify` is the
+    // greatest, since no argument sets it.
+    fn request_on(&self, file: String) -> Result<Request, WordsFault> {
+        Ok(match self.name {
             "verify" => Request::Verify(VerifyRequest {
-                file: self.text("FILE")?,
+                file,
                 limits: self.limits(BOUND),
             }),
             "prefixes" => Request::Prefixes(PrefixesRequest {
-                file: self.text("FILE")?,
+                file,
                 at_least: self.number("at-least", DEFAULT_PREFIXES),
                 is_pruned: self.flag("unbounded"),
             }),
-            "join" => Request::Join(self.join_request()?),
-            "explain" => Request::Explain(self.explain_request()?, self.explain_form()),
+            "join" => Request::Join(self.join_request(file)?),
+            "explain" => Request::Explain(self.explain_request(file)?, self.explain_form()),
             _ if self.args.get_str("under").is_some() => Request::Under(UnderRequest {
-                file: self.text("FILE")?,
+                file,
                 prefix: self.text("under")?,
                 search: self.exploration(),
             }),
             _ => Request::Guest {
-                file: self.text("FILE")?,
+                file,
                 request: self.guest_request()?,
             },
         })

@@ -5,4 +5,5 @@ endif
 let current_compiler = "guest"
 
 CompilerSet makeprg=ctxbound\ check\ --short\ %:S
-CompilerSet errorformat=%f:%l:%c:\ %trror\ %m,%f:%l:%c:\ %tarning\ %m,%f:%l:%c:\ %temark\ %m,%-G%.%#
+CompilerSet errorformat=%f:%l:%c:\ %trror\ %m,%f:%l:%c:\ %tarning\ %m,%f:%l:%c:\ %temark\ %m,
+  \%f:%l:\ %trror\ %m,%f:%l:\ %tarning\ %m,%f:%l:\ %temark\ %m,%-G%.%#
