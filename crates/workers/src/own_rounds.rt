@@ -42,6 +42,20 @@ pub(crate) struct Lending<'a, N: SearchBrand, G: Gate> {
 }
 
 impl<N: SearchBrand, G: Gate> Lending<'_, N, G> {
+    // Makes a worker anew in its own thread, so that what it writes to doesn't lie beside what
+    // another worker writes to. Where memory is refused, it stays as it is.
+    fn renew(&self, worker: &mut Worker)
+        requires { worker.old.walker ≡ N.of.program }
+        ensures { worker.new.walker ≡ N.of.program }
+    {
+        let Ok(program) = Arc::try_clone(&self.program) else {
+            return;
+        };
+        if let Ok(made) = Worker::new(self.alloc, program, worker.number) {
+            *worker = made;
+        }
+    }
+
     // Walks the items that a worker was lent, in the loan's order. `worker.found` then has what the
     // walks found, and `items` copies of the items. The gate never stops a worker here.
     fn walk_loan(
@@ -110,6 +124,7 @@ impl<N: SearchBrand, G: Gate> Lending<'_, N, G> {
         requires { worker.old.walker ≡ N.of.program }
         ensures { worker.new.walker ≡ N.of.program }
     {
+        self.renew(worker);
         let mut loan = Loan::new(self.alloc);
         let mut items = Vec::new(self.alloc);
         // Turn 0 has ended from the start: the worker is lent its first items at once.
