@@ -6,8 +6,8 @@ use Rattle.std.proofs.lemmas.List.{get_or_default}
 use Rattle.guest_code.specs.Program.{skip_of, JumpsWithin}
 use Rattle.lint.specs.declared.paths.Mark.{Mark}
 use Rattle.lint.specs.declared.paths.Watch.{Watch}
-use Rattle.lint.specs.Paths.{Goes, Next, Comes, here, on, after}
-use Rattle.lint.specs.inner.Marks.{Marked, AddsOne, AddsAll, Marks}
+use Rattle.lint.specs.Paths.{Goes, Next, Comes, here, on, after, Marked, Marks}
+use Rattle.lint.specs.inner.Marking.{AddsOne, AddsAll}
 
 -- the next ones come later
 goes_on : (i : Instruction) (k j : ℕ) → Goes i k j → k < j

@@ -1,10 +1,11 @@
--- Paths through the code of a thread: from an instruction to one that may be next, and what is so
--- after them.
+-- Paths through the code of a thread: from an instruction to one that may be next, what is so after
+-- them, and marks of instructions, which say it.
 use Rattle.std.specs.Prelude.{◌≡◌, ℕ, ◌+◌, ◌<◌, ◌⊎◌, Bool, true, false, ◌&&◌, ◌||◌, nat_eq, if◌then◌else◌, IsTrue, List, length, slice_index_or, Option, Some, None}
 use Rattle.guest_code.specs.declared.program.Instruction.{Instruction}
 use Rattle.guest_code.specs.declared.program.Instruction.TheVariants.{Store, Add, Cas, Lock, Unlock, Wait, Signal, Broadcast, Acquire, Release, SkipIfZero, Skip}
 use Rattle.guest_code.specs.Program.{skip_of}
 use Rattle.lint.specs.Uses.{expression_reads, sets}
+use Rattle.lint.specs.declared.paths.Mark.{Mark}
 use Rattle.lint.specs.declared.paths.Watch.{Watch}
 use Rattle.lint.specs.declared.paths.Watch.TheVariants as watches
 
@@ -69,3 +70,20 @@ IsReached code k = (b : Bool) × Comes code watches.Nothing 0 false k b
 -- an instruction that acts, or the end
 abbrev pub ActsAt : List Instruction → ℕ → Type 0
 ActsAt code k = IsTrue (acts (slice_index_or code k (Skip 0))) ⊎ (k ≡ length code)
+
+abbrev pub no_mark : Mark
+no_mark = record { may_hold = false; may_not_hold = false }
+
+abbrev pub mark_of : Mark → Bool → Bool
+mark_of x true = x.may_hold
+mark_of x false = x.may_not_hold
+
+-- the mark of instruction j for this way
+abbrev pub Marked : List Mark → ℕ → Bool → Type 0
+Marked ms j b = IsTrue (mark_of (slice_index_or ms j no_mark) b)
+
+-- the marks are the ways in which some path leads there
+pub record Marks (ms : List Mark) (code : List Instruction) (w : Watch) (k : ℕ) (b : Bool)
+    : Type 0 where
+  pub sound : (j : ℕ) (c : Bool) → Marked ms j c → Comes code w k b j c
+  pub complete : (j : ℕ) (c : Bool) → Comes code w k b j c → Marked ms j c

@@ -2,8 +2,8 @@
 
 ghost use Rattle.std.specs.Prelude.{◌≡◌, ◌+◌, ◌<◌, ◌≤◌, ◌^◌, ◌↔◌, ℕ, Bool, IsTrue, IfOk, length};
 ghost use Rattle.guest_code.specs.Program.{JumpsWithin, skip_of};
-ghost use Rattle.lint.specs.Paths.{is_test, owned_after, acts, unseen_after, after, ActsAt};
-ghost use Rattle.lint.specs.inner.Marks.{Marked, AddsOne, AddsNext, AddsAll, Marks};
+ghost use Rattle.lint.specs.Paths.{is_test, owned_after, acts, unseen_after, after, ActsAt, Marked, Marks};
+ghost use Rattle.lint.specs.inner.Marking.{AddsOne, AddsNext, AddsAll};
 
 use crate::uses::{expression_reads, sets};
 use guest_code::program::Instruction;

@@ -8,8 +8,7 @@ use Rattle.guest_code.specs.declared.program.Instruction.TheVariants.{Skip}
 use Rattle.guest_code.specs.Program.{skip_of}
 use Rattle.lint.specs.declared.paths.Mark.{Mark}
 use Rattle.lint.specs.declared.paths.Watch.TheVariants.{Nothing}
-use Rattle.lint.specs.Paths.{Goes}
-use Rattle.lint.specs.inner.Marks.{Marks, mark_of, no_mark}
+use Rattle.lint.specs.Paths.{Goes, Marks, mark_of, no_mark}
 use Rattle.explain.specs.declared.step.Step.{Step}
 use Rattle.waits.specs.declared.fate.Fate.{Fate}
 use Rattle.waits.specs.declared.fate.Fate.TheVariants.{Taken, Ahead, Perhaps, OutOfReach}

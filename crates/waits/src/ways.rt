@@ -3,7 +3,7 @@
 ghost use Rattle.std.specs.Prelude.{◌≡◌, ◌≤◌, ◌<◌, ◌+◌, ◌^◌, ◌&&◌, ◌||◌, max, ℕ, true, false, IfOk, length, slice_index_or, if◌then◌else◌};
 ghost use Rattle.guest_code.specs.declared.program.Instruction.TheVariants.{Skip};
 ghost use Rattle.guest_code.specs.Program.{Program, JumpsWithin, IsValidCode, IsValid, skip_of};
-ghost use Rattle.lint.specs.inner.Marks.{mark_of, no_mark};
+ghost use Rattle.lint.specs.Paths.{mark_of, no_mark};
 ghost use Rattle.waits.specs.Ways.{tests, decided};
 ghost use Rattle.waits.specs.inner.Settling.{AreOpen, IsSettled};
 

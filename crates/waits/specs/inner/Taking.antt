@@ -3,7 +3,7 @@ use Rattle.std.specs.Prelude.{◌≡◌, ℕ, ◌<◌, ℤ, Bool, false, ◌||�
 use Rattle.guest_code.specs.declared.program.Instruction.{Instruction}
 use Rattle.lint.specs.declared.paths.Mark.{Mark}
 use Rattle.lint.specs.declared.paths.Watch.TheVariants.{Nothing}
-use Rattle.lint.specs.inner.Marks.{Marks}
+use Rattle.lint.specs.Paths.{Marks}
 use Rattle.explain.specs.declared.step.Step.{Step}
 use Rattle.waits.specs.declared.fate.Fate.{Fate}
 use Rattle.waits.specs.declared.fate.Fate.TheVariants.{Taken, Ahead, Perhaps, OutOfReach}

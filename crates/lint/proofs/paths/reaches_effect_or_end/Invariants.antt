@@ -1,7 +1,6 @@
 use Rattle.std.proofs.Common.{ℕ, ◌<◌, Bool, IsTrue, get_or}
 use Rattle.guest_code.specs.declared.program.Instruction.TheVariants.{Skip}
-use Rattle.lint.specs.Paths.{acts}
-use Rattle.lint.specs.inner.Marks.{Marked}
+use Rattle.lint.specs.Paths.{acts, Marked}
 use Rattle.lint.proofs.paths.reaches_effect_or_end.Given as goal
 
 abbrev pub invariant-loop-at : goal.invariant-loop-at

@@ -1,7 +1,7 @@
 use Rattle.std.proofs.Common.{◌∙◌, ℕ, ◌<◌, Bool, true, false, ◌||◌, ◌&&◌, length, ap, arith, get_or}
 use Rattle.std.proofs.lemmas.List.{get_or_default, length-set}
 use Rattle.guest_code.specs.declared.program.Instruction.TheVariants.{Load, Skip}
-use Rattle.lint.specs.inner.Marks.{mark_of, no_mark}
+use Rattle.lint.specs.Paths.{mark_of, no_mark}
 use Rattle.waits.specs.Ways.{tests}
 use Rattle.waits.proofs.OpenTests.{opens_more}
 use Rattle.waits.proofs.ways.mark_open.Goals as goal

@@ -1,6 +1,6 @@
 use Rattle.std.proofs.Common.{◌≡◌, ℕ, ◌<◌, ◌≤◌, true, false, ◌||◌, ◌&&◌, length, get_or}
 use Rattle.guest_code.specs.declared.program.Instruction.TheVariants.{Skip}
-use Rattle.lint.specs.inner.Marks.{mark_of, no_mark}
+use Rattle.lint.specs.Paths.{mark_of, no_mark}
 use Rattle.waits.specs.Ways.{tests}
 use Rattle.waits.proofs.ways.mark_open.Given as goal
 

@@ -1,7 +1,7 @@
 use Rattle.std.proofs.Common.{◌≡◌, ◌∙◌, ◌+◌, Bool, true, false, List, ◌||◌, ◌&&◌, length, sym, subst, ap, get_or}
 use Rattle.guest_code.specs.declared.program.Instruction.TheVariants.{Skip}
 use Rattle.lint.specs.declared.paths.Mark.{Mark}
-use Rattle.lint.specs.inner.Marks.{mark_of, no_mark}
+use Rattle.lint.specs.Paths.{mark_of, no_mark}
 use Rattle.explain.proofs.Pushed.{written_back}
 use Rattle.waits.specs.Ways.{tests}
 use Rattle.waits.specs.inner.Settling.{AreOpenBelow}

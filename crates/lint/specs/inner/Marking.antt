@@ -1,20 +1,9 @@
--- What marks of instructions say.
-use Rattle.std.specs.Prelude.{◌≡◌, ℕ, ◌⊎◌, Bool, true, false, IsTrue, List, slice_index_or, Option, Some}
+-- How marks of instructions are added.
+use Rattle.std.specs.Prelude.{◌≡◌, ℕ, ◌⊎◌, Bool, List, Option, Some}
 use Rattle.guest_code.specs.declared.program.Instruction.{Instruction}
 use Rattle.lint.specs.declared.paths.Mark.{Mark}
 use Rattle.lint.specs.declared.paths.Watch.{Watch}
-use Rattle.lint.specs.Paths.{Goes, Comes, after}
-
-abbrev pub no_mark : Mark
-no_mark = record { may_hold = false; may_not_hold = false }
-
-abbrev pub mark_of : Mark → Bool → Bool
-mark_of x true = x.may_hold
-mark_of x false = x.may_not_hold
-
--- the mark of instruction j for this way
-abbrev pub Marked : List Mark → ℕ → Bool → Type 0
-Marked ms j b = IsTrue (mark_of (slice_index_or ms j no_mark) b)
+use Rattle.lint.specs.Paths.{Goes, after, Marked}
 
 -- marks are added for these, and no others
 pub record Grows (old new : List Mark) (More : ℕ → Bool → Type 0) : Type 0 where
@@ -34,9 +23,3 @@ AddsNext old new at i next = Grows old new (λ j b. Goes i at j × (next ≡ Som
 abbrev pub AddsAll : List Mark → List Mark → ℕ → Instruction → Watch → Type 0
 AddsAll old new at i w = Grows old new
     (λ j b. (c : Bool) × Marked old at c × Goes i at j × (after w i c ≡ Some b))
-
--- the marks are the ways in which some path leads there
-pub record Marks (ms : List Mark) (code : List Instruction) (w : Watch) (k : ℕ) (b : Bool)
-    : Type 0 where
-  pub sound : (j : ℕ) (c : Bool) → Marked ms j c → Comes code w k b j c
-  pub complete : (j : ℕ) (c : Bool) → Comes code w k b j c → Marked ms j c
