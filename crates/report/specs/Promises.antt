@@ -24,7 +24,7 @@ IsBoundedVerdict may p o last bound sum (Clean all) = IsClean p last bound sum a
 IsBoundedVerdict may p o last bound sum (Bad k w kind) =
     IsBad o.quick p last bound sum k w.items kind
 IsBoundedVerdict may p o last bound sum (Incomplete cause finished) =
-    (bound ≤ last) × IsCutShort may p (Bounded bound) o.limit sum cause
+    (bound ≤ last) × IsCutShort may p (UpTo last) (Bounded bound) o.limit sum cause
     × IsFinished p bound finished
 
 -- what a verdict says where an unbounded search has come to this summary
@@ -32,7 +32,7 @@ abbrev pub IsUnboundedVerdict : Bool → Program → Options → SummaryView →
 IsUnboundedVerdict may p o sum (Clean all) = (all ≡ true) × HasNoBad p sum
 IsUnboundedVerdict may p o sum (Bad k w kind) = IsFirstBad o.quick p sum k w.items kind
 IsUnboundedVerdict may p o sum (Incomplete cause finished) =
-    (finished ≡ None) × IsCutShort may p Reduced o.limit sum cause
+    (finished ≡ None) × IsCutShort may p Unbounded Reduced o.limit sum cause
 
 -- what a report says of its search
 abbrev pub IsReportFor : Bool → Program → Options → Search → Report → Type 0

@@ -1,17 +1,19 @@
 -- What the report of a search up to a bound promises, in terms of all complete schedules of its
 -- program.
 use Rattle.std.specs.Prelude.{◌≡◌, ◌↔◌, ◌⊎◌, ℕ, ◌<◌, ◌≤◌, ◌+◌, Bool, true, false}
-use Rattle.std.specs.Prelude.{List, Option, Some, None, Contains}
+use Rattle.std.specs.Prelude.{List, [], Option, Some, None, Contains}
 use Rattle.guest_code.specs.Program.{Program}
 use Rattle.semantics.specs.declared.view.Kind.{Kind}
 use Rattle.semantics.specs.Machine.{start}
 use Rattle.schedules.specs.Schedules.{complete_schedules, preemptions}
 use Rattle.schedules.specs.Order.{precedes, ends_badly}
 use Rattle.items.specs.declared.mode.Mode.{Mode}
-use Rattle.items.specs.declared.mode.Mode.TheVariants.{Bounded}
+use Rattle.items.specs.declared.mode.Mode.TheVariants.{Bounded, Reduced}
 use Rattle.summary.specs.Summaries.{SummaryView, IsBoundedBy, end_kind}
 use Rattle.items.specs.Items.{ItemView, root_of, whole}
 use Rattle.items.specs.Walks.{IsSplit}
+use Rattle.report.specs.declared.options.Search.{Search}
+use Rattle.report.specs.declared.options.Search.TheVariants.{UpTo, Unbounded}
 use Rattle.report.specs.declared.report.Cause.{Cause}
 use Rattle.report.specs.declared.report.Cause.TheVariants.{Limit, Stopped}
 
@@ -80,8 +82,17 @@ abbrev pub IsFinished : Program → ℕ → Option ℕ → Type 0
 IsFinished p bound (Some f) = ((bound ≡ f) ⊎ (bound ≡ f + 1)) × NoBadBelow p (f + 1)
 IsFinished p bound None = bound ≡ 0
 
--- a search was cut short in a mode
-pub record IsCutShort (may : Bool) (p : Program) (mode : Mode) (limit : Option ℕ)
-    (sum : SummaryView) (cause : Cause) : Type 0 where
+-- another bound follows that of the mode: this isn't the last, no schedule within it is bad, and
+-- some exceed it
+abbrev pub IsFollowed : Program → Search → Mode → Type 0
+IsFollowed p (UpTo last) (Bounded bound) =
+    (bound < last) × NoBadBelow p (bound + 1) × SomeExceeds p bound
+IsFollowed p (UpTo last) Reduced = ⊥
+IsFollowed p Unbounded mode = ⊥
+
+-- a search was cut short in a mode, before its end: an item was open, or another bound follows
+pub record IsCutShort (may : Bool) (p : Program) (search : Search) (mode : Mode)
+    (limit : Option ℕ) (sum : SummaryView) (cause : Cause) : Type 0 where
   pub items : HasItems p mode sum
+  pub left : items.0 ≡ [] → IsFollowed p search mode
   pub why : IsCause may limit sum cause

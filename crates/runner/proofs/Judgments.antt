@@ -10,6 +10,7 @@ use Rattle.items.specs.declared.mode.Mode.{Mode}
 use Rattle.items.specs.declared.mode.Mode.TheVariants.{Bounded, Reduced}
 use Rattle.summary.specs.Summaries.{SummaryView, IsBoundedBy, nothing, with_beyond, end_kind}
 use Rattle.items.specs.Items.{ItemView, IsItem, root_of, whole}
+use Rattle.items.proofs.Splits.{root_within, split_closed}
 use Rattle.book.specs.Books.{BookView, Keeps, KeepsWhere, with_deferred}
 use Rattle.book.specs.Progress.{mode_bound}
 use Rattle.book.proofs.BoundedSums.{bounded_itself, closed_sum, never_dropped}
@@ -20,7 +21,7 @@ use Rattle.report.specs.declared.options.Search.TheVariants.{UpTo, Unbounded}
 use Rattle.report.specs.declared.report.Cause.{Cause}
 use Rattle.report.specs.declared.report.Verdict.{Verdict}
 use Rattle.report.specs.declared.report.Verdict.TheVariants.{Clean, Bad, Incomplete}
-use Rattle.report.specs.Reports.{IsBad, HasItems, IsCause}
+use Rattle.report.specs.Reports.{IsBad, IsCause, IsFollowed, IsCutShort}
 use Rattle.report.specs.Unbounded.{IsFirstBad}
 use Rattle.report.specs.Promises.{IsReportFor, IsReport}
 use Rattle.runner.specs.declared.judge.Ending.{Ending}
@@ -30,7 +31,7 @@ use Rattle.runner.specs.Levels.{AreBelow, IsLastSum, AreLevels, IsPassedLevel}
 use Rattle.runner.specs.inner.Judging.{HasPassedBounds, IsFound, IsFinishedIn, IsBoundBelow}
 use Rattle.runner.specs.inner.Judging.{IsVerdictOn, IsAt, Ends, ending_cause, level_at}
 use Rattle.runner.specs.inner.Judging.{report_in}
-use Rattle.runner.proofs.AfterRounds.{past_level}
+use Rattle.runner.proofs.AfterRounds.{has_next, past_level}
 use Rattle.runner.proofs.Promises.{passed_none, none_within, some_exceeds, found_bad, found_none}
 use Rattle.runner.proofs.Promises.{finished_here, finished_below, same_bad, least_within}
 use Rattle.runner.proofs.Unbounded.{found_first, found_no_bad}
@@ -108,19 +109,43 @@ whole_is_reported may p o mode sum v of passed ends found on =
     go Unbounded (Bounded bound) v of passed ends found on = absurd of
     go search m (Incomplete cause finished) of passed ends found on = absurd on
 
+-- where all is tried at a bound from which the search goes on, another one follows
+followed : (p : Program) (search : Search) (mode : Mode) (sum : SummaryView)
+    → IsModeOf search mode → sum ≡ whole p mode → GoesOn search mode sum
+    → IsFollowed p search mode
+followed p (UpTo last) (Bounded bound) sum of is on = (
+  has_next (UpTo last) (Bounded bound) sum of on,
+  none_within p bound (ap (λ (t : SummaryView). t.first_bad) (sym is) ∙ on.none),
+  some_exceeds p bound (ap (λ (t : SummaryView). t.beyond) (sym is) ∙ on.beyond),
+)
+followed p (UpTo last) Reduced sum of is on = absurd of
+followed p Unbounded (Bounded bound) sum of is on = absurd of
+followed p Unbounded Reduced sum of is on = absurd (on.more tt)
+
 pub cut_is_reported : (may : Bool) (p : Program) (o : Options) (mode : Mode) (sum : SummaryView)
-    (cause : Cause) (finished : Option ℕ) → IsModeOf o.search mode → HasItems p mode sum
+    (cause : Cause) (finished : Option ℕ) → IsModeOf o.search mode
+    → HasItemsOf o.search mode (root_of p) sum
     → IsCause may o.limit sum cause → IsFinishedIn p mode finished
     → IsReport may p o (report_in o mode sum (Incomplete cause finished))
 cut_is_reported may p o mode sum cause finished of items why done =
     (refl, go o.search mode of items done)
   where
-    go : (search : Search) (m : Mode) → IsModeOf search m → HasItems p m sum
+    cut : (search : Search) (m : Mode) → IsModeOf search m → HasItemsOf search m (root_of p) sum
+        → IsCutShort may p search m o.limit sum cause
+    cut search m of items = record {
+      items = (items.0, items.1, items.2);
+      left = λ none. followed p search m sum of
+          (split_closed m (root_of p) sum items.0 items.1 (root_within m p) items.2 none)
+          (items.3 none);
+      why = why;
+    }
+
+    go : (search : Search) (m : Mode) → IsModeOf search m → HasItemsOf search m (root_of p) sum
         → IsFinishedIn p m finished
         → IsReportFor may p o search (report_in o m sum (Incomplete cause finished))
     go (UpTo last) (Bounded bound) of items done =
-        (bound, refl, (of, record { items = items; why = why }, done))
-    go Unbounded Reduced of items done = (refl, (done, record { items = items; why = why }))
+        (bound, refl, (of, cut (UpTo last) (Bounded bound) of items, done))
+    go Unbounded Reduced of items done = (refl, (done, cut Unbounded Reduced of items))
     go (UpTo last) Reduced of items done = absurd of
     go Unbounded (Bounded bound) of items done = absurd of
 
@@ -157,26 +182,36 @@ found_of_program quick p Reduced sum found w some =
     (found_first quick p sum w (end_kind p w) found.sum some refl).bad.0
 
 -- a book has its items, whether it was thinned or not
-pub book_has_items : (b : BookView) → Keeps b → HasItemsOf b.mode b.of b.finished
-book_has_items b keeps = go b.dropped keeps.split
+pub book_has_items : (b : BookView) (search : Search) → Keeps b
+    → (b.open_items ≡ [] → GoesOn search b.mode b.finished)
+    → HasItemsOf search b.mode b.of b.finished
+book_has_items b search keeps left = go b.dropped keeps.split
   where
+    none_after : (xs ys : List ItemView) → xs ++ ys ≡ [] → ys ≡ []
+    none_after [] ys e = e
+    none_after (x ∷ xs) ys e = absurd cc
+
     go : (dropped : Bool) → KeepsWhere dropped (with_deferred b keeps.put)
-        → HasItemsOf b.mode b.of b.finished
-    go false book = (b.open_items, keeps.put, book.split)
-    go true thin = (thin.gone ++ b.open_items, keeps.put, thin.split.split)
+        → HasItemsOf search b.mode b.of b.finished
+    go false book = (b.open_items, keeps.put, book.split, left)
+    go true thin = (
+      thin.gone ++ b.open_items,
+      keeps.put,
+      thin.split.split,
+      λ none. left (none_after thin.gone b.open_items none),
+    )
 
 pub cut_at_end : (may : Bool) (p : Program) (o : Options) (b : BookView) (mode : Mode)
     (sum : SummaryView) (cause : Cause) (finished : Option ℕ) → mode ≡ b.mode → sum ≡ b.finished
-    → IsAt (root_of p) o b → Keeps b → IsCause may o.limit b.finished cause
-    → IsFinishedIn p b.mode finished
+    → IsAt (root_of p) o b → Keeps b → Ends may o b (Cut cause) → IsFinishedIn p b.mode finished
     → IsReport may p o (report_in o mode sum (Incomplete cause finished))
-cut_at_end may p o b mode sum cause finished m s at keeps why done =
+cut_at_end may p o b mode sum cause finished m s at keeps ends done =
     subst (λ (x : Mode). IsReport may p o (report_in o x sum (Incomplete cause finished))) (sym m)
     (subst (λ (x : SummaryView).
     IsReport may p o (report_in o b.mode x (Incomplete cause finished))) (sym s)
     (cut_is_reported may p o b.mode b.finished cause finished at.of
-    (subst (λ (i : ItemView). HasItemsOf b.mode i b.finished) at.is.of (book_has_items b keeps))
-    why done))
+    (subst (λ (i : ItemView). HasItemsOf o.search b.mode i b.finished) at.is.of
+    (book_has_items b o.search keeps ends.1)) ends.0 done))
 
 -- the levels of a search that has ended
 
@@ -185,7 +220,8 @@ last_sum : (may : Bool) (o : Options) (b : BookView) (ending : Ending) → Keeps
     → IsLastSum may o.search o.limit b.mode b.of (ending_cause ending) b.finished
 last_sum may o b Whole keeps quick ends =
     (closed_sum b keeps (never_dropped b keeps quick) ends.0, ends.1)
-last_sum may o b (Cut cause) keeps quick ends = (ends.0, book_has_items b keeps)
+last_sum may o b (Cut cause) keeps quick ends =
+    (ends.0, book_has_items b o.search keeps ends.1)
 
 pub levels_end : (may : Bool) (o : Options) (b : BookView) (ending : Ending)
     (below all : List Level) (last : Level) → Keeps b → IsAt b.of o b → o.quick ≡ false → AreBelow b.of b.mode below

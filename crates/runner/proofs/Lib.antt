@@ -7,3 +7,4 @@ pub mod Promises
 pub mod ReadTexts
 pub mod Shrinks
 pub mod Unbounded
+pub mod Unfinished

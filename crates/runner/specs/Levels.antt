@@ -68,10 +68,12 @@ abbrev pub AreBelow : ItemView → Mode → List Level → Type 0
 AreBelow i (Bounded bound) levels = (length levels ≡ bound) × ArePassedFrom i 0 levels
 AreBelow i Reduced levels = levels ≡ []
 
--- there are items that the item's schedules split into beside those of the summary
-abbrev pub HasItemsOf : Mode → ItemView → SummaryView → Type 0
-HasItemsOf mode i sum =
+-- there are items that the item's schedules split into beside those of the summary: one is open, or
+-- the search goes on to the next bound
+abbrev pub HasItemsOf : Search → Mode → ItemView → SummaryView → Type 0
+HasItemsOf search mode i sum =
     (open_items deferred : List ItemView) × IsSplit mode i sum open_items deferred
+    × (open_items ≡ [] → GoesOn search mode sum)
 
 -- what the last level says of the item: the sum of all with which the search ends, or of what was
 -- tried when it was cut short
@@ -80,7 +82,7 @@ abbrev pub IsLastSum : Bool → Search → Option ℕ → Mode → ItemView → 
 IsLastSum may search limit mode i None sum =
     (sum ≡ item_sum mode i) × (GoesOn search mode sum → ⊥)
 IsLastSum may search limit mode i (Some cause) sum =
-    IsCause may limit sum cause × HasItemsOf mode i sum
+    IsCause may limit sum cause × HasItemsOf search mode i sum
 
 -- the levels of a search under an item, with a limit or none, which a gate may have stopped or not:
 -- bound after bound

@@ -1,12 +1,18 @@
 //! What is proved of the definitions alone. A law is what its function ensures; the functions do
 //! nothing.
 
-ghost use Rattle.std.specs.Prelude.{◌≡◌, Bool, false};
+ghost use Rattle.std.specs.Prelude.{◌≡◌, ◌⊎◌, ◌<◌, ℕ, [], Bool, false, Option, length};
 ghost use Rattle.guest_code.specs.Program.{Program};
+ghost use Rattle.schedules.specs.Schedules.{schedules_within};
+ghost use Rattle.items.specs.declared.mode.Mode.TheVariants.{Bounded};
+ghost use Rattle.summary.specs.Summaries.{SummaryView};
 ghost use Rattle.report.specs.declared.limits.TheConstants.{QUOTA};
 ghost use Rattle.workers.specs.declared.limits.TheConstants.{WORKERS};
 ghost use Rattle.report.specs.declared.options.Options.{Options};
+ghost use Rattle.report.specs.declared.options.Search.TheVariants.{UpTo};
+ghost use Rattle.report.specs.declared.report.Cause.{Cause};
 ghost use Rattle.report.specs.declared.report.Report.{Report};
+ghost use Rattle.report.specs.Reports.{IsFollowed, IsCutShort};
 ghost use Rattle.report.specs.Promises.{IsReport, IsWhole};
 ghost use Rattle.report.specs.ReportText.{report_text};
 
@@ -19,6 +25,16 @@ pub fn reports_agree()
         o.search ≡ q.search → o.quick ≡ false → q.quick ≡ false →
         IsReport may p o r → IsReport other p q s →
         IsWhole r.verdict → IsWhole s.verdict → report_text r ≡ report_text s }
+{}
+
+/// A search up to a bound that is said to be cut short isn't finished: fewer schedules were tried
+/// than there are within the bound that it came to, or another bound follows, since that one isn't
+/// the last, no schedule within it is bad, and some exceed it.
+pub fn unfinished_searches_go_on()
+    ensures { (may : Bool) (p : Program) (last bound : ℕ) (limit : Option ℕ) (sum : SummaryView)
+        (cause : Cause) → IsCutShort may p (UpTo last) (Bounded bound) limit sum cause →
+        (sum.tried < length (schedules_within p [] bound))
+        ⊎ IsFollowed p (UpTo last) (Bounded bound) }
 {}
 
 /// By default a walk tries at most 256 schedules. A search has at most 16 workers.

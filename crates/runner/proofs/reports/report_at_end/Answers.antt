@@ -32,5 +32,5 @@ returns-in-Cut-clause-report c =
     (cut_at_end may p o b c.mode-mode.result c.finished.result.now c.in-Cut.cause
     c.last_finished_bound-finished.result c.mode-mode.ensures c.finished.ensures.finished
     c.requires.at c.finished.ensures.kept
-    (subst (λ (e : Ending). Ends may o b e) c.in-Cut.is ends).0
+    (subst (λ (e : Ending). Ends may o b e) c.in-Cut.is ends)
     c.last_finished_bound-finished.ensures)) c.report_in.ensures.report
