@@ -694,11 +694,12 @@ class Commands(Tester):
         where a search finds none, a sentence says how far it went."""
         ran = {"0x3": "0x2", "7": "-"}
         for words, schedule, status in ((["race.guest"], "0,1,0", 1), (["race.guest", "--unbounded"], "0,1,0", 1),
+                                        (["crowd.guest", "--limit", "1"], "0,1,0,2,3,4,5,6,7,8", 1),
                                         (["race.guest", "0x2,1"], "0x2,1", 0), (["race.guest", "0"], "0", 0),
                                         (["race.guest", "0,0,0"], "0x3", 2), (["race.guest", "7"], "7", 2)):
             text, err, found = self.run(["explain"] + words)
             self.compare(["explain"] + words, (text.split("\n")[-2], err, found),
-                         ("Replay: ctxbound replay race.guest " + ran.get(schedule, schedule), "", status))
+                         ("Replay: ctxbound replay %s " % words[0] + ran.get(schedule, schedule), "", status))
             told, err, found = self.run(["explain"] + words + ["--json"])
             self.compare(["explain"] + words + ["--json"], (json.loads(told)["schedule"], err, found),
                          (schedule, "", status))
@@ -707,6 +708,10 @@ class Commands(Tester):
         for words, wanted in (
                 (["clean.guest"], ("clean.guest: no schedule is bad (2 tried).\n", "", 0)),
                 (["clean.guest", "--unbounded"], ("clean.guest: no schedule is bad (1 tried).\n", "", 0)),
+                (["pairs.guest", "--limit", "257"], ("pairs.guest: no schedule is bad (256 tried).\n", "", 0)),
+                (["eights.guest", "--limit", "100"], (
+                    "eights.guest: no schedule with at most 2 preemptions is bad; the search of others was cut short, and none "
+                    "that it tried is bad (114 tried).\n", "", 3)),
                 (["eights.guest", "--bound", "1"], (
                     "eights.guest: no schedule with at most 1 preemption is bad (16 tried).\n"
                     "That is no proof: others have more. Try --unbounded, or a higher --bound.\n", "", 0)),

@@ -85,8 +85,11 @@ NOTHING = [
     (["--bound", "1"], 0, "apart.guest: no schedule with at most 1 preemption is bad (4 tried).\n"
      "That is no proof: others have more. Try --unbounded, or a higher --bound.\n"),
     (["--unbounded"], 0, "apart.guest: no schedule is bad (1 tried).\n"),
-    (["--limit", "3"], 3,
-     "apart.guest: the search was cut short; no schedule that it tried is bad (4 tried).\n"),
+    (["--bound", "2", "--limit", "3"], 3,
+     "apart.guest: no schedule with at most 1 preemption is bad; the search of others was cut short, and none that it "
+     "tried is bad (4 tried).\n"),
+    # the search up to a bound is cut short, and one without a bound follows
+    (["--limit", "3"], 0, "apart.guest: no schedule is bad (1 tried).\n"),
 ]
 
 # A name of a file that is markup, and as the text of an element.

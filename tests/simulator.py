@@ -1246,7 +1246,7 @@ def fields(value, at="", named=False):
 # The objects whose keys are names of a guest.
 NAMED = ("variables", "semaphores", "conditions", "mutexes", "locals", "after")
 # What is alike in each explanation.
-ALIKE = ()
+ALIKE = (".search.cause",)
 
 
 def places(value, path=()):
@@ -1325,15 +1325,21 @@ class Explanations(Tester):
         self.expect("sentences of %s %s" % (name, words), got == want, repr(got), repr(want))
         self.told.update(one[1] for one in want if len(one) > 2 or one[1] in ("has yet to", "may"))
 
-    def searched(self, name, text):
-        """A schedule that a search finds, with the report of that search."""
-        report = json.loads(self.run("explore", name, cwd=ROOT).out)
-        if report["verdict"] == "bad":
-            self.compare(name, [], explanation(name, text, schedule_of(report["schedule"]), report))
+    def searched(self, name, text, words):
+        """A schedule that a search finds, with the report of that search: as far as a bound says; else up to the greatest
+        one, and where that leaves it open, without one."""
+        is_open = lambda report: not report.get("schedule") and not report.get("all")
+        reported = lambda *command: json.loads(self.run(*command, name, *words, cwd=ROOT).out)
+        report = reported("explore") if words[0] == "--bound" else reported("explore", "--bound", "64")
+        if words[0] == "--limit" and is_open(report):
+            far = reported("unbounded")
+            report = report if is_open(far) else far
+        if report.get("schedule"):
+            self.compare(name, words, explanation(name, text, schedule_of(report["schedule"]), report))
             self.sentences(name, text, schedule_of(report["schedule"]))
         else:
             status = {"clean": 0, "incomplete": 3}[report["verdict"]]
-            self.compare(name, [], ({"file": name, "schedule": None, "search": report}, status))
+            self.compare(name, words, ({"file": name, "schedule": None, "search": report}, status))
 
     def every_field(self):
         """Each field but those that are always an object was seen with two values."""
@@ -1366,7 +1372,8 @@ class Explanations(Tester):
         maker = Maker(self.chance)
         for path in guests():
             name, text = str(path.relative_to(ROOT)), path.read_text()
-            self.searched(name, text)
+            for words in (["--bound", "1"], ["--limit", "1"], ["--limit", "30"], ["--limit", "2000"]):
+                self.searched(name, text, words)
             for _ in range(4):
                 self.explained(name, text, maker.schedule(Guest(text)))
         for number, (text, schedule) in enumerate(SHAPES):

@@ -1,5 +1,6 @@
 -- Which schedule of a program is explained, and the status that the program ends with.
-use Rattle.std.specs.Prelude.{◌≡◌, ℕ, List, false, Option, Some, None, Result, MatchResult}
+use Rattle.std.specs.Prelude.{◌≡◌, ◌&&◌, not, nat_eq, if◌then◌else◌, ℕ, List, Bool, true, false}
+use Rattle.std.specs.Prelude.{Option, Some, None, Result, MatchResult}
 use Rattle.std.specs.Prelude.{String, string_bytes, option_map}
 use Rattle.std.specs.declared.alloc.Global.{Global}
 use Rattle.guest_code.specs.Program.{Program}
@@ -7,8 +8,13 @@ use Rattle.semantics.specs.declared.view.Kind.{Kind}
 use Rattle.explain.specs.declared.explanation.Explanation.{Explanation}
 use Rattle.explain.specs.Explains.{Explains}
 use Rattle.replay.specs.Spelling.{Spells}
+use Rattle.items.specs.declared.limits.TheConstants.{BOUND}
 use Rattle.report.specs.declared.options.Options.{Options}
+use Rattle.report.specs.declared.options.Search.{Search}
+use Rattle.report.specs.declared.options.Search.TheVariants.{UpTo, Unbounded}
 use Rattle.report.specs.declared.report.Report.{Report}
+use Rattle.report.specs.declared.report.Verdict.{Verdict}
+use Rattle.report.specs.declared.report.Verdict.TheVariants.{Clean, Bad, Incomplete}
 use Rattle.report.specs.Promises.{IsReport}
 use Rattle.report.specs.ReportText.{named_schedule}
 use Rattle.report.specs.Texts.{IsProgramOf}
@@ -49,12 +55,45 @@ IsOfReport p report (Found r told) =
 IsOfReport p report (NoneFound r) = (r ≡ report) × (named_schedule report ≡ None)
 IsOfReport p report (Asked told) = ⊥
 
+-- whether it is left open if a schedule is bad: none is named, and it isn't said that none is
+abbrev pub leaves_open : Option (List ℕ) → Verdict → Bool
+leaves_open (Some w) v = false
+leaves_open None (Clean all) = not all
+leaves_open None (Bad k w kind) = false
+leaves_open None (Incomplete cause finished) = true
+
+abbrev pub is_open : Report → Bool
+is_open r = leaves_open (named_schedule r) r.verdict
+
+-- whether another search follows one with this report: only where that went up to the greatest bound
+abbrev pub is_followed : Search → Report → Bool
+is_followed (UpTo last) r = nat_eq last BOUND && is_open r
+is_followed Unbounded r = false
+
+-- the same search without a bound
+abbrev pub without_bound : Options → Options
+without_bound o = record { search = Unbounded; limit = o.limit; quota = o.quota; quick = o.quick }
+
+-- of both reports the second is told, unless it leaves open what the first one does
+abbrev pub told_report : Report → Report → Report
+told_report near far = if is_open far then near else far
+
+-- the report of a search is told, or, where one without a bound follows, one of both
+abbrev pub IsTold : Program → Options → Bool → Report → Report → Type 0
+IsTold p o false near report = report ≡ near
+IsTold p o true near report =
+    (far : Report) × IsReport false p (without_bound o) far × (report ≡ told_report near far)
+
+abbrev pub IsSearched : Program → Options → Report → Type 0
+IsSearched p o report =
+    (near : Report) × IsReport false p o near × IsTold p o (is_followed o.search near) near report
+
 -- the schedule that was asked for is explained, or where none was, the one that a search reports
 abbrev pub IsOf : Program → Options → Option (String Global) → Explained → Type 0
 IsOf p o (Some text) (Asked told) = IsAsked p (string_bytes text) told
 IsOf p o (Some text) other = ⊥
 IsOf p o None explained =
-    (report : Report) × IsReport false p o report × IsOfReport p report explained
+    (report : Report) × IsSearched p o report × IsOfReport p report explained
 
 abbrev pub IsExplained : Program → ExplainRequest → Explained → Type 0
 IsExplained p request explained = IsOf p request.search.options request.schedule explained

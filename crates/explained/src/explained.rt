@@ -3,11 +3,15 @@
 ghost use Rattle.std.specs.Prelude.{◌≡◌, List, ℕ, IfOk, IfErr};
 ghost use Rattle.std.specs.Arc.{arc_value};
 ghost use Rattle.guest_code.specs.SourceMap.{IsMapOf};
+ghost use Rattle.report.specs.declared.error.ExploreError.TheVariants.{OutOfMemory};
 ghost use Rattle.report.specs.Texts.{IsProgramOf, ExploreErrorMeans};
 ghost use Rattle.explained.specs.Explained.{ExplainMeans, ExplainFaultMeans, IsExplained};
 ghost use Rattle.explained.specs.Explained.{IsOfReport, asked, explained_status, told_status};
+ghost use Rattle.explained.specs.Explained.{IsSearched, is_followed, is_open, told_report};
 
-use answering::{ExplainRequest, Fault, Host, Printed, REFUSED, replay_status, verdict_status};
+use answering::{
+    ExplainRequest, Exploration, Fault, Host, Printed, REFUSED, replay_status, verdict_status,
+};
 use explain::{Explanation, Source};
 use explain_text::{Layout, explanation_text, run_out_lines};
 use guest_code::lowering::lower;
@@ -15,7 +19,7 @@ use guest_code::program::Program;
 use guest_code::source_map::SourceMap;
 use guest_syntax::parse;
 use replay::schedule_from;
-use runner::{ExploreError, Report, Verdict};
+use runner::{BOUND, ExploreError, Options, Report, Search, Verdict};
 use std::alloc::{AllocError, Global};
 use std::sync::Arc;
 
@@ -153,7 +157,7 @@ impl Explained {
     {
         let alloc = rt.alloc();
         let Some(schedule) = &request.schedule else {
-            let report = request.search.report(rt, program)?;
+            let report = search_report(rt, program, request.search)?;
             return Ok(Explained::of_report(alloc, program, report)?);
         };
         let steps = schedule_from(alloc, schedule.as_bytes())?;
@@ -185,6 +189,63 @@ impl Explained {
     }
 }
 
+// The report of a search for a bad schedule. Where that goes up to the greatest bound and leaves it
+// open whether a schedule is bad, the same search is made without a bound, and its report is the
+// answer unless it leaves that open, too.
+#[tactic(auto, using(crate::proofs::Searched::alone, crate::proofs::Searched::followed))]
+fn search_report<H: Host>(
+    rt: &H,
+    program: &Arc<Program>,
+    search: Exploration,
+) -> Result<Report, ExploreError>
+    ensures report { IfOk result (IsSearched (arc_value program.now) search.options) }
+    ensures error { IfErr result (λ e. e ≡ OutOfMemory) }
+{
+    let near = search.report(rt, program)?;
+    if !is_followed(search.options.search, &near) {
+        return Ok(near);
+    }
+    let unbounded = Exploration {
+        options: Options {
+            search: Search::Unbounded,
+            ..search.options
+        },
+        workers: search.workers,
+        progress: search.progress,
+    };
+    let far = unbounded.report(rt, program)?;
+    Ok(told_report(near, far))
+}
+
+// Whether a search without a bound follows this one, whose report is this.
+fn is_followed(search: Search, report: &Report) -> bool
+    ensures { result ≡ is_followed search report.now }
+{
+    match search {
+        Search::UpTo(bound) => bound == BOUND && is_open(report),
+        Search::Unbounded => false,
+    }
+}
+
+// The report that is told, of a search up to a bound and one without a bound.
+fn told_report(near: Report, far: Report) -> Report
+    ensures { result ≡ told_report near far }
+{
+    if is_open(&far) { near } else { far }
+}
+
+// Whether a report leaves it open whether a schedule is bad: it names none, and doesn't say that
+// none is.
+fn is_open(report: &Report) -> bool
+    ensures { result ≡ is_open report.now }
+{
+    match (report.schedule(), &report.verdict) {
+        (Some(_), _) | (None, Verdict::Bad { .. }) => false,
+        (None, Verdict::Clean { all }) => !*all,
+        (None, Verdict::Incomplete { .. }) => true,
+    }
+}
+
 // The status that `ctxbound` ends with after an explanation: that of a replay of the schedule, or
 // that of a refusal where a step of the schedule can't be taken.
 fn explained_status(explanation: &Explanation) -> u8
@@ -197,9 +258,9 @@ fn explained_status(explanation: &Explanation) -> u8
 }
 
 /// Whether a report names a bad schedule and shows that none with fewer preemptions is bad: the
-/// search had a bound, found one and wasn't cut short.
+/// search had a bound. It goes on to the next one only where none is bad, cut short there or not.
 pub fn has_fewest_preemptions(report: &Report) -> bool {
-    matches!(&report.verdict, Verdict::Bad { .. }) && report.bound.is_some()
+    report.schedule().is_some() && report.bound.is_some()
 }
 
 /// What the user is told where a search of the program in this file found no bad schedule: how far
@@ -212,6 +273,18 @@ pub fn no_schedule_text(alloc: Global, file: &str, report: &Report) -> Result<St
             let ending = if bound == 1 { "" } else { "s" };
             format!(in alloc;
                 "{file}: no schedule with at most {bound} preemption{ending} is bad ({tried} tried).\n{NO_PROOF}\n"
+            )
+        }
+        (
+            Verdict::Incomplete {
+                finished: Some(bound),
+                ..
+            },
+            _,
+        ) => {
+            let ending = if *bound == 1 { "" } else { "s" };
+            format!(in alloc;
+                "{file}: no schedule with at most {bound} preemption{ending} is bad; the search of others was cut short, and none that it tried is bad ({tried} tried).\n"
             )
         }
         (Verdict::Incomplete { .. }, _) => format!(in alloc;

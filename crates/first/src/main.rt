@@ -4,10 +4,11 @@
 #![tactic(auto)]
 
 use answering::{
-    CommandFault, DEFAULT_STEPS, DEFAULT_WIDTH, ExplainRequest, Exploration, GuestRequest, Host,
-    Printed, REFUSED, read_file, serve_file, write_printed,
+    CommandFault, DEFAULT_LIMIT, DEFAULT_STEPS, DEFAULT_WIDTH, ExplainRequest, Exploration,
+    GuestRequest, Host, Printed, REFUSED, read_file, serve_file, write_printed,
 };
 use explained::{Text, explain_text};
+use runner::{BOUND, Options, Search};
 use std::fs::Files;
 use std::io::{Input, Write};
 use std::process::ExitCode;
@@ -40,7 +41,7 @@ fn read_request(rt: &HostRuntime) -> Option<Request> {
             return Some(Request::Explain(ExplainRequest {
                 file,
                 schedule,
-                search: Exploration::default(),
+                search: far_search(),
             }));
         }
         ("explore", Some(word)) if word.as_str() == "--trace" => {
@@ -50,6 +51,18 @@ fn read_request(rt: &HostRuntime) -> Option<Request> {
         _ => return None,
     };
     Some(Request::Guest { file, request })
+}
+
+// The search for a schedule to explain: as `ctxbound explain` makes it where it is given no bound.
+fn far_search() -> Exploration {
+    Exploration {
+        options: Options {
+            limit: Some(DEFAULT_LIMIT),
+            ..Options::new(Search::UpTo(BOUND))
+        },
+        workers: 1,
+        progress: false,
+    }
 }
 
 // What is printed of the schedule of the guest program in a file that is asked for, or that a search

@@ -160,12 +160,14 @@ const SUBCOMMANDS: [Subcommand; 9] = [
         arguments: &[
             FILE,
             WORKERS,
-            LIMIT,
+            argument!("limit" Long, Value("L"), Range(1, i64::MAX);
+                "Cut the search short after this number of schedules [default: 20000000 without --bound]"),
             PROGRESS,
             QUICK,
             argument!("SCHEDULE"; "The schedule to explain; left out, a search finds one";
                 without "workers" "limit" "progress" "quick" "bound" "unbounded"),
-            BOUND,
+            argument!("bound" Long, Value("N"), Range(0, report::limits::BOUND as i64);
+                "The most preemptions of a schedule [default: 64, and if none is found, any]"),
             argument!("unbounded" Long, Flag; "Search without a bound"; without "bound"),
             argument!("all" Long, Flag; "Show each step, however many"; without "html" "json"),
             argument!("steps" Long, Value("N"), Range(0, 32_768);

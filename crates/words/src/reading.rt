@@ -70,11 +70,22 @@ impl CommandArguments<'_, '_> {
         Ok(values)
     }
 
-    // The bound that is given, or else the default one; `clap` has refused one above `BOUND`.
+    // The bound that is given, or else the default one, which in `explain` is the greatest; `clap`
+    // has refused one above `BOUND`.
     fn bound(&self) -> u32
         ensures { IsSearch (UpTo result) }
     {
-        self.number("bound", DEFAULT_BOUND).min(BOUND)
+        let is_far = self.name == "explain";
+        let default = if is_far { BOUND } else { DEFAULT_BOUND };
+        self.number("bound", default).min(BOUND)
+    }
+
+    // The limit that is given, if any. Where `explain` is given no bound it has that of `verify`.
+    fn limit(&self) -> Option<u64> {
+        let bound: Option<u32> = self.args.get_one("bound");
+        let is_far = self.name == "explain" && bound.is_none() && !self.is_unbounded();
+        let limit: Option<u64> = self.args.get_one("limit");
+        limit.or(is_far.then_some(DEFAULT_LIMIT))
     }
 
     // The number of workers that is given, or else 1; `clap` has refused one that can't be.
@@ -107,7 +118,7 @@ impl CommandArguments<'_, '_> {
         Exploration {
             options: Options {
                 search: self.search(self.is_unbounded()),
-                limit: self.args.get_one("limit"),
+                limit: self.limit(),
                 quota: QUOTA,
                 quick: self.flag("quick"),
             },
