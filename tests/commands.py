@@ -258,6 +258,9 @@ PROGRESS = [
      "race.guest:\nunbounded: 3 tried, 1 bad, 0 open\nbound 0: 2 tried, 0 bad, 0 open, 1 deferred\n"
      "bound 1: 3 tried, 1 bad, 0 open\nclean.guest:\nunbounded: 1 tried, 0 bad, 0 open\n"),
     (["verify", "race.guest"], "unbounded: 3 tried, 1 bad, 0 open\nbound 0: 2 tried, 0 bad, 0 open\n"),
+    (["verify", "clean.guest"], "unbounded: 1 tried, 0 bad, 0 open\n"),
+    (["verify", "waits.guest", "--limit", "9"],
+     "unbounded: 3 tried, 0 bad, 0 open\ncaveats: looked for in at most 9 schedules\n"),
 ]
 PROGRESS_LINE = re.compile(r"(?:bound (\d+)|unbounded): ([\d,]+) tried, ([\d,]+) bad, ([\d,]+) open"
                            r"(?:, ([\d,]+) deferred)?")
@@ -581,6 +584,11 @@ class Commands(Tester):
         for words, line, status in ((["refused.guest"], "ctxbound: syntax S3 Expected at 2:1\n", 2),
                                     (["gone.guest"], "ctxbound: gone.guest: No such file or directory (os error 2)\n", 4)):
             self.answers(["verify"] + words, "", line, status)
+        # that it is right is written before anything is looked for that weakens it
+        done = subprocess.run([self.binary, "verify", "waits.guest", "--progress"], cwd=self.folder, timeout=self.seconds,
+                              stdout=subprocess.PIPE, stderr=subprocess.STDOUT, check=False)
+        self.compare(["verify", "--progress"], [line.split()[0] for line in done.stdout.decode().split("\n")[:-1]],
+                     ["unbounded:", "all", "RIGHT:", "caveats:", "But"])
         # the schedule that is named is the one that it says
         told = self.run(["verify", "it's here.guest"])[0].split("ctxbound ")[-1]
         self.compare(["verify"], self.run(shlex.split(told))[2], 1)
@@ -754,9 +762,10 @@ class Commands(Tester):
         self.answers(["replay", "-"], "", "ctxbound: syntax S5 TooLong at 1:1\n", 2, given=" " * 65537)
 
     def full_device(self):
-        """A stream that can't be written is named by `suite` and `explain`, and is `file` elsewhere."""
+        """A stream that can't be written is named by `suite`, `explain` and `verify`, and is `file` elsewhere."""
         named = "ctxbound: standard output: No space left on device (os error 28)\n"
         for words, line in ((["suite", "clean.guest"], named), (["explain", "race.guest"], named),
+                            (["verify", "clean.guest"], named),
                             (["explore", "clean.guest"], "ctxbound: file\n")):
             with open("/dev/full", "wb") as full:
                 done = subprocess.run([self.binary] + words, cwd=self.folder, stdout=full,

@@ -19,8 +19,9 @@ const CAVEAT_DEPTH: u64 = 1_000_000;
 /// What is said at the end where the searches leave open whether a program is right.
 const HIGHER_LIMIT: &str = "A higher --limit says more.";
 
-/// Verifies that no schedule of the guest program of this text is bad, and answers what is printed
-/// of it. A line on each search is written to `out` as the search ends.
+/// Verifies that no schedule of the guest program of this text is bad, and answers what is left to
+/// print of it. A line on each search is written to `out` as the search ends, and that the program
+/// is right before it is looked for caveats.
 ///
 /// # Errors
 ///
@@ -35,7 +36,7 @@ pub fn verify_guest<H: Host, W: io::Write>(
     let answer = verify_text(rt, text, request.limits, out)?;
     let file = request.file.as_str();
     let told = match &answer {
-        Correctness::Right => right_text(alloc, request, text)?,
+        Correctness::Right => right_text(rt, request, text, out)?,
         Correctness::Bad { bad, is_fewest } => {
             let run_out = run_out_text(alloc, text, file, bad.steps.as_slice())?;
             bad_text(alloc, file, bad, *is_fewest, run_out.as_str())?
@@ -48,30 +49,63 @@ pub fn verify_guest<H: Host, W: io::Write>(
     })
 }
 
-// The text of the answer that a program is right, with its caveats: a line for each warning of
-// `CAVEATS` that a check of its schedules, up to `CAVEAT_DEPTH` of them and no more than the limit,
-// finds, and for each that the check may have missed since it was cut short there. A warning's place
-// is its line and column, or the file and line that a preprocessor's mark names.
-fn right_text(alloc: Global, request: &VerifyRequest, text: &[u8]) -> Result<String, AllocError> {
-    let file = request.file.as_str();
+// Writes to `out` that a program is right, and answers its caveats, after that answer where `out`
+// didn't take it, so that writing the rest fails, too.
+fn right_text<H: Host, W: io::Write>(
+    rt: &H,
+    request: &VerifyRequest,
+    text: &[u8],
+    out: &mut W,
+) -> Result<String, AllocError> {
+    let (alloc, file) = (rt.alloc(), request.file.as_str());
     let mut told = format!(in alloc; "RIGHT: no schedule of {file} fails or gets stuck.\n")?;
-    let depth = request.limits.limit.min(CAVEAT_DEPTH);
+    if out.write_all(told.as_bytes()).is_ok() && out.flush().is_ok() {
+        told.clear();
+    }
     let pieces = pieces(alloc, text)?;
-    let marks = Marks::new(alloc, text)?;
-    if let Checked::Sound(all) = check(alloc, text, Some(depth))? {
-        for diagnostic in &all {
-            let (line, column) = diagnostic.place();
-            let at = match marks.origin(line) {
-                Some(_) => format!(in alloc; "{}", marks.file_line("", line).with_name())?,
-                None => format!(in alloc; "{line}:{column}")?,
-            };
-            put_caveat(&mut told, alloc, diagnostic, at.as_str())?;
-            if diagnostic.code().0 == "W21" {
-                put_missed_caveats(&mut told, depth, &pieces)?;
-            }
+    if CAVEATS.iter().any(|caveat| has_word(&pieces, caveat.1)) {
+        let depth = request.limits.limit.min(CAVEAT_DEPTH);
+        if request.limits.progress {
+            let tried = Count(depth as usize, "schedule");
+            let _ = rt.eprintln(format_args!("caveats: looked for in at most {tried}"));
         }
+        put_caveats(&mut told, alloc, text, &pieces, depth)?;
     }
     Ok(told)
+}
+
+// Adds to `told` a line for each warning of `CAVEATS` that a check of the schedules of the program of
+// this text, up to `depth` of them, finds, and for each that the check may have missed since it was
+// cut short there. A warning's place is its line and column, or the file and line that a
+// preprocessor's mark names.
+fn put_caveats(
+    told: &mut String,
+    alloc: Global,
+    text: &[u8],
+    pieces: &[Piece<'_>],
+    depth: u64,
+) -> Result<(), AllocError> {
+    let marks = Marks::new(alloc, text)?;
+    let Checked::Sound(all) = check(alloc, text, Some(depth))? else {
+        return Ok(());
+    };
+    for diagnostic in &all {
+        let (line, column) = diagnostic.place();
+        let at = match marks.origin(line) {
+            Some(_) => format!(in alloc; "{}", marks.file_line("", line).with_name())?,
+            None => format!(in alloc; "{line}:{column}")?,
+        };
+        put_caveat(told, alloc, diagnostic, at.as_str())?;
+        if diagnostic.code().0 == "W21" {
+            put_missed_caveats(told, depth, pieces)?;
+        }
+    }
+    Ok(())
+}
+
+// Whether a word is among the pieces of a text.
+fn has_word(pieces: &[Piece<'_>], word: &[u8]) -> bool {
+    pieces.iter().any(|piece| piece.text == word)
 }
 
 // The warnings that are caveats to the answer that a program is right: the number of each, a word
@@ -105,7 +139,7 @@ fn put_missed_caveats(
     pieces: &[Piece<'_>],
 ) -> Result<(), AllocError> {
     for (_, word, sought) in CAVEATS {
-        if pieces.iter().any(|piece| piece.text == word) {
+        if has_word(pieces, word) {
             let tried = Count(depth as usize, "schedule");
             writeln!(told, "But {sought} were looked for in {tried} alone.")?;
         }
