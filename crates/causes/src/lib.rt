@@ -5,7 +5,7 @@
 //! a statement at which a thread stopped, a thread that is blocked. This is a backward slice of the
 //! run. The methods of [`Causes`] say where a value came from, and [`unchanged_since`] and
 //! [`next_change`] how long a variable had it. [`Causes::repeats_run_out`] says which loops ran out of
-//! turns, by the text.
+//! turns, and [`Turns`] in which turns statements were carried out, by the text.
 #![tactic(auto)]
 
 mod backward_slice;
@@ -19,6 +19,7 @@ mod failure;
 pub mod laws;
 mod origins;
 mod repeats;
+mod turns;
 
 pub use crate::causes::Causes;
 pub use crate::changes::{next_change, unchanged_since};
@@ -26,4 +27,4 @@ pub use crate::decisions::is_decided;
 pub use crate::event::{Deed, Event};
 pub use crate::events::events_of;
 pub use crate::failure::Failure;
-pub use crate::repeats::Repeat;
+pub use crate::turns::{InTurns, Turns};

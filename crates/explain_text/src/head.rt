@@ -2,8 +2,8 @@
 
 use crate::origins::ValueLayout;
 use crate::text::TextWriter;
-use causes::{Event, Failure, Repeat};
-use explain::{Holder, Object};
+use causes::{Event, Failure};
+use explain::{Holder, Object, Repeat};
 use guest_code::program::Instruction;
 use semantics::view::Kind;
 use std::alloc::AllocError;
