@@ -1,7 +1,7 @@
 //! What the JSON of an explanation tells, and the names of threads, objects and locals in it.
 
 use crate::places::{StatementEnds, statement_ends};
-use causes::Causes;
+use causes::{Causes, Turns};
 use explain::{Explanation, Object, Source, Statement, Step, name_text};
 use guest_code::limits::THREADS;
 use replay::{Act, schedule_text};
@@ -22,6 +22,8 @@ pub struct Facts<'a> {
     pub source: &'a Source<'a>,
     /// What happened in the run, and what of that is in the cause of how the run ended.
     pub causes: Causes,
+    /// In which turns of loops the threads carried out their statements.
+    pub turns: Turns,
     /// Which blocked threads there are, and which statements could end their waits.
     pub waits: Waits,
     /// From which files the lines of the text come, by the marks of a preprocessor.
@@ -44,11 +46,13 @@ impl<'a> Facts<'a> {
         search: Option<Value>,
         why: Option<&'a str>,
     ) -> Result<Facts<'a>, AllocError> {
+        let causes = Causes::of(alloc, source.program, explanation)?;
         Ok(Facts {
             alloc,
             explanation,
             source,
-            causes: Causes::of(alloc, source.program, explanation)?,
+            turns: Turns::new(alloc, source, causes.events())?,
+            causes,
             waits: Waits::new(alloc, source.program, explanation)?,
             marks: Marks::new(alloc, source.text)?,
             ends: statement_ends(alloc, source.text)?,

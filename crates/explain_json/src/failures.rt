@@ -101,6 +101,7 @@ impl<S: Serializer> Writer<'_, S> {
         self.put("stop", stop_reason_word(stop))?;
         self.put_statement_text(statement)?;
         self.put("thread", event.thread)?;
+        self.put_turns(statement)?;
         self.put_assertion_values(at, event)?;
         self.out.end_map()
     }
@@ -157,6 +158,7 @@ impl<S: Serializer> Writer<'_, S> {
                 self.put("name", facts.thread_name(event.thread))?;
                 self.put("step", event.step)?;
                 self.put_statement_text(statement)?;
+                self.put_turns(statement)?;
                 self.put("was", event.value() != 0)?;
                 self.out.end_map()?;
             }
@@ -182,6 +184,7 @@ impl<S: Serializer> Writer<'_, S> {
             self.put("since", facts.unchanged_since(event))?;
             self.put("step", event.step)?;
             self.put_statement_text(statement)?;
+            self.put_turns(statement)?;
             self.out.end_map()?;
         }
         self.out.end_seq()

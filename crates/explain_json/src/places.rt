@@ -127,6 +127,23 @@ impl<S: Serializer> Writer<'_, S> {
         self.put_some("from", from)
     }
 
+    /// Writes the list `turns`, of each loop round a statement which turn it is in and `of` how many,
+    /// the outer loop first; nothing where its thread didn't carry it out in a turn after the first.
+    pub fn put_turns(&mut self, statement: Statement<'_>) -> Written<S> {
+        let turns = self.facts.turns.of(statement.thread, statement.instruction);
+        if turns.len() == 0 {
+            return Ok(());
+        }
+        self.begin_list("turns")?;
+        for (turn, of) in (0..turns.len()).filter_map(|number| turns.get(number)) {
+            self.out.begin_map(None)?;
+            self.put("of", of)?;
+            self.put("turn", turn)?;
+            self.out.end_map()?;
+        }
+        self.out.end_seq()
+    }
+
     /// Writes the `text` of a statement: how it is spelled.
     pub fn put_statement_text(&mut self, statement: Statement<'_>) -> Written<S> {
         self.out.key("text")?;

@@ -48,6 +48,7 @@ impl<S: Serializer> Writer<'_, S> {
         self.put("step", at)?;
         self.put("stop", step.line.stop.map(stop_reason_word))?;
         self.put("thread", thread)?;
+        self.put_turns(statement)?;
         self.put_allocated("woken", facts.thread_names(step.woken.as_slice()))?;
         self.out.end_map()
     }

@@ -389,7 +389,8 @@ function showEnds() {
 // Shows the state after the step in the row at this place, counted from 1; 0 is the start.
 function show(place) {
   const count = place > 0 ? rows[place - 1] + 1 : 0, s = stateAfter(count), step = count > 0 ? steps[count - 1] : null;
-  const at = step !== null && step.from ? " (" + step.from.file + ":" + step.from.line + ")" : "";
+  const from = step !== null && step.from ? " (" + step.from.file + ":" + step.from.line + ")" : "";
+  const turns = step === null ? [] : step.turns || [], at = from + turns.map((t) => ", turn " + t.turn + " of " + t.of).join("");
   const words = step === null ? "at the start"
     : "after step " + step.step + " of 0 to " + (steps.length - 1) + ": " + step.name + " " + label(step) + at;
   byId("slider").value = place;
