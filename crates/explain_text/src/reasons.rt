@@ -10,19 +10,14 @@ use std::alloc::AllocError;
 use text_lines::{Page, width_of};
 use waits::Wait;
 
-/// Columns of the widest mark beside a thread that is in a circle.
-const MARK_WIDTH: usize = 9;
-/// Blanks in the row of a blocked thread: before its name and between the columns, together.
-const GAPS_WIDTH: usize = 10;
 /// The column at which what doesn't fit into a line goes on in the next one.
 const INDENT: usize = 6;
 
-// The widths of the columns of names, places, and the reasons of threads in circles.
+// The widths of the columns of names and places.
 #[derive(Clone, Copy, Default)]
 struct Widths {
     name: usize,
     place: usize,
-    reason: usize,
 }
 
 impl TextWriter<'_> {
@@ -52,45 +47,32 @@ impl TextWriter<'_> {
         }
         let waits = self.waits.all().iter();
         for wait in waits.filter(|wait| wait.is_in_no_circle()) {
-            self.put_wait_row(page, wait, "", widths)?;
+            self.put_wait_row(page, wait, widths)?;
         }
         Ok(())
     }
 
-    // Writes the rows of a circle, with marks or, where those don't fit, a line below that says it.
+    // Writes the rows of a circle, and that its threads wait for one another.
     fn put_circle(&self, page: &mut Page, circle: Mask, widths: Widths) -> Result<(), AllocError> {
-        let columns = widths.name.saturating_add(widths.place);
-        let columns = columns.saturating_add(widths.reason);
-        let is_marked = columns.saturating_add(GAPS_WIDTH + MARK_WIDTH) <= self.columns.width;
-        let waits = self.waits.all().iter();
-        let members = waits.filter(|wait| circle.has(wait.thread));
-        let members: Vec<&Wait> = members.collect(self.alloc)?;
         let mut names = String::new(self.alloc);
-        let size = members.len();
-        for (at, wait) in members.iter().enumerate() {
-            let mark = if is_marked { circle_mark(at, size) } else { "" };
-            self.put_wait_row(page, wait, mark, widths)?;
+        let mut verb = "waits for itself";
+        let waits = self.waits.all().iter();
+        for wait in waits.filter(|wait| circle.has(wait.thread)) {
+            self.put_wait_row(page, wait, widths)?;
+            if !names.is_empty() {
+                verb = "wait for one another";
+            }
             push_entry(&mut names, self.thread_name(wait.thread))?;
         }
-        let words = match size {
-            _ if is_marked => return Ok(()),
-            1 => format!(in self.alloc; "  {names} waits for itself")?,
-            _ => format!(in self.alloc; "  {names} wait for one another")?,
-        };
+        let words = format!(in self.alloc; "  {names} {verb}")?;
         page.put_line(words.as_str(), INDENT)
     }
 
-    fn put_wait_row(
-        &self,
-        page: &mut Page,
-        wait: &Wait,
-        mark: &str,
-        widths: Widths,
-    ) -> Result<(), AllocError> {
+    fn put_wait_row(&self, page: &mut Page, wait: &Wait, widths: Widths) -> Result<(), AllocError> {
         let (name, place) = (self.thread_name(wait.thread), self.blocked_site(wait)?);
         let reason = self.reason_text(wait)?;
-        let (n, p, r) = (widths.name, widths.place, widths.reason);
-        let row = format!(in self.alloc; "  {name:<n$}  {place:<p$}   {reason:<r$}   {mark}")?;
+        let (n, p) = (widths.name, widths.place);
+        let row = format!(in self.alloc; "  {name:<n$}  {place:<p$}   {reason}")?;
         page.put_line(row.as_str(), INDENT)
     }
 
@@ -106,15 +88,12 @@ impl TextWriter<'_> {
         format!(in self.alloc; "at {line}: {action}")
     }
 
-    // The widths that all rows need; of reasons only those in circles count, as marks follow them.
+    // The widths that all rows need.
     fn column_widths(&self) -> Result<Widths, AllocError> {
         let mut widths = Widths::default();
         for wait in self.waits.all() {
             widths.name = width_of(self.thread_name(wait.thread)).max(widths.name);
             widths.place = width_of(self.blocked_site(wait)?.as_str()).max(widths.place);
-            if !wait.is_in_no_circle() {
-                widths.reason = width_of(self.reason_text(wait)?.as_str()).max(widths.reason);
-            }
         }
         Ok(widths)
     }
@@ -216,15 +195,5 @@ impl TextWriter<'_> {
             (None, true) => words.push_str(" has stopped."),
             (None, false) => words.push_str(" has ended."),
         }
-    }
-}
-
-// The mark of a thread at `place` in a circle: together they are a bracket, `circle` at its top.
-fn circle_mark(place: usize, length: usize) -> &'static str {
-    match (place, length.saturating_sub(place)) {
-        (0, 1) => "itself",
-        (0, _) => "\\  circle",
-        (_, 1) => "/",
-        _ => "|",
     }
 }
