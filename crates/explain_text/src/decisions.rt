@@ -53,11 +53,17 @@ impl TextWriter<'_> {
         test: &Event,
         end: usize,
     ) -> Result<(), AllocError> {
-        let mut words = self.outcome_text(at, test, end)?;
-        let (site, outcome) = (self.event_site(test), test.value() != 0);
-        let (statement, line) = (site.statement, site.line);
-        write!(words, " since `{statement}` in {line} was {outcome}")?;
+        let (outcome, test) = (self.outcome_text(at, test, end)?, self.test_text(test)?);
+        let words = format!(in self.alloc; "{outcome}{test}")?;
         page.put_indented(words.as_str(), TEST_INDENT, INDENT)
+    }
+
+    /// As text, that something is so since a test was as it was.
+    pub fn test_text(&self, test: &Event) -> Result<String, AllocError> {
+        let (site, outcome) = (self.event_site(test), test.value() != 0);
+        let comma = if site.line.turns.len() == 0 { "" } else { "," };
+        let (statement, line) = (site.statement, site.line);
+        format!(in self.alloc; " since `{statement}` in {line}{comma} was {outcome}")
     }
 
     // As text, what a test led to: the event at place `end`, else the next of the cause, no test,

@@ -69,8 +69,11 @@ impl TextWriter<'_> {
         let site = self.event_site(&event);
         let steps = failure.step.map_or(0, |at| at.saturating_add(1));
         let counts = self.counts_text(steps, failure.preemptions)?;
-        let (line, statement, name) = (site.line.0.with_name(), site.statement, site.name);
-        let head = format!(in self.alloc; "{line}: FAILED: {statement}   in {name} {counts}")?;
+        let (line, turns) = (site.line.line.0.with_name(), site.line.turns);
+        let (statement, name) = (site.statement, site.name);
+        let head = format!(in self.alloc;
+            "{line}: FAILED: {statement}   in {name}{turns} {counts}"
+        )?;
         page.put_line(head.as_str(), INDENT)?;
         let mut told = Vec::new(self.alloc);
         self.put_reason(page, failure.event, event.statement, &mut told)?;

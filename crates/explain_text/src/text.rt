@@ -1,6 +1,6 @@
 //! The explanation of a schedule as text, and the names and places that its parts tell.
 
-use causes::{Causes, Event};
+use causes::{Causes, Event, InTurns, Turns};
 use explain::{Explanation, Object, Source, Statement, Step, name_text};
 use guest_code::program::Instruction;
 use replay::schedule_text;
@@ -30,6 +30,8 @@ pub struct TextWriter<'a> {
     pub layout: Layout,
     /// What happened in the run, and what of that is in the cause of how the run ended.
     pub causes: Causes,
+    /// In which turns of loops the threads carried out their statements.
+    pub turns: Turns,
     /// Which blocked threads there are, and which statements could end their waits.
     pub waits: Waits,
     /// Where the lines of the text come from.
@@ -78,8 +80,21 @@ pub fn run_out_lines(
 pub struct Site<'a> {
     /// The name of the thread.
     pub name: &'a str,
-    pub line: InLine<'a>,
+    pub line: InTurn<'a>,
     pub statement: Statement<'a>,
+}
+
+/// A line, and the turns in which it is, where it matters: `line 12, turn 2 of 3`.
+#[derive(Clone, Copy)]
+pub struct InTurn<'a> {
+    pub line: InLine<'a>,
+    pub turns: InTurns<'a>,
+}
+
+impl fmt::Display for InTurn<'_> {
+    fn fmt<W: fmt::Write>(&self, f: &mut fmt::Formatter<W>) -> fmt::Result {
+        write!(f, "{}{}", self.line, self.turns)
+    }
 }
 
 impl fmt::Display for Site<'_> {
@@ -113,12 +128,14 @@ impl<'a> TextWriter<'a> {
         source: &'a Source<'a>,
         layout: Layout,
     ) -> Result<TextWriter<'a>, AllocError> {
+        let causes = Causes::of(alloc, source.program, explanation)?;
         let mut writer = TextWriter {
             alloc,
             explanation,
             source,
             layout,
-            causes: Causes::of(alloc, source.program, explanation)?,
+            turns: Turns::new(alloc, source, causes.events())?,
+            causes,
             waits: Waits::new(alloc, source.program, explanation)?,
             marks: Marks::new(alloc, source.text)?,
             columns: Columns::new(alloc, layout.width, &[], 0)?,
@@ -219,7 +236,10 @@ impl<'a> TextWriter<'a> {
     pub fn site(&self, thread: u8, instruction: usize) -> Site<'_> {
         Site {
             name: self.thread_name(thread),
-            line: InLine(self.line(thread, instruction)),
+            line: InTurn {
+                line: InLine(self.line(thread, instruction)),
+                turns: self.turns.of(thread, instruction),
+            },
             statement: Statement {
                 source: self.source,
                 thread,

@@ -210,15 +210,13 @@ impl TextWriter<'_> {
             None => write!(words, "{times} times, the last time at the start ({site})")?,
         }
         if let Some((at, event)) = self.deciding_event(at) {
-            let test = self.event_site(&event);
-            let (statement, line) = (test.statement, test.line);
             if let Instruction::SkipIfZero(expression, _) = event.statement {
-                let outcome = event.value() != 0;
-                write!(words, ", since `{statement}` in {line} was {outcome}")?;
+                write!(words, ",{}", self.test_text(&event)?)?;
                 page.put_line(words.as_str(), INDENT)?;
                 return self.put_values(page, at, expression, VALUE_LAYOUT);
             }
-            write!(words, ", by `{statement}` in {line}")?;
+            let jump = self.event_site(&event);
+            write!(words, ", by `{}` in {}", jump.statement, jump.line)?;
         }
         page.put_line(words.as_str(), INDENT)
     }
