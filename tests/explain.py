@@ -52,6 +52,7 @@ CASES = [
     (HERE, "two_circles.guest", ["0,1,2,3"], 1, "two_circles.txt"),
     (HERE, "starved.guest", ["0x3,1x4,2x4,3x3"], 1, "starved.txt"),
     (HERE, "stopped_owner.guest", ["0x2,0"], 2, "stopped_owner.txt"),
+    (HERE, "ended_owner.guest", ["0x2"], 1, "ended_owner.txt"),
     (HERE, "broadcast.guest", ["0x2,1x2,2x2,3x2,1x3,0x3,2x2"], 1, "broadcast.txt"),
     (HERE, "broadcast.guest", ["0x2,1x2,2x2,3x2"], 0, "woken.txt"),
     (HERE, "woken_twice.guest", ["0x2,1x2,2,0x2,1x2"], 1, "woken_twice.txt"),

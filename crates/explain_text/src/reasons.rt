@@ -147,6 +147,17 @@ impl TextWriter<'_> {
         }
     }
 
+    /// Whether a thread waits for a mutex whose owner ended, and has statements that give it back.
+    pub fn is_given_up(&self, wait: &Wait) -> bool {
+        let mutex = match wait.reason {
+            Reason::Lock(m) | Reason::Retake(m) => m,
+            _ => return false,
+        };
+        let holder = self.explanation.holder(mutex);
+        let owner = holder.and_then(|holder| self.explanation.thread_state(holder.thread));
+        owner.is_some_and(|owner| owner.status == Status::Ended) && !wait.statements.is_empty()
+    }
+
     // Writes why the schedule's next step can't be taken, and who could go on if it isn't complete.
     fn put_continuation(&self, page: &mut Page) -> Result<(), AllocError> {
         let kind = self.explanation.kind();

@@ -22,19 +22,22 @@ const VALUE_LAYOUT: ValueLayout = ValueLayout {
 };
 
 impl TextWriter<'_> {
-    /// Writes, once for each condition and semaphore that threads wait for, what those would do if
-    /// they were woken, who could end the waits, and what came of the statements that could.
+    /// Writes, once for each object that threads wait for, what those would do if they were woken,
+    /// who could end the waits, and what came of the statements that could; of a mutex only where
+    /// its owner ended.
     pub fn put_unblocking(&self, page: &mut Page) -> Result<(), AllocError> {
         let waits = self.waits.all();
         for (at, wait) in waits.iter().enumerate() {
+            let object = wait.reason.object();
             let mut earlier = waits.iter().take(at);
-            let is_new = !earlier.any(|other| other.reason == wait.reason);
+            let is_new = !earlier.any(|other| other.reason.object() == object);
             let verb = match wait.reason {
                 Reason::Signal(_) if is_new => "signal",
                 Reason::Acquire(_) if is_new => "release",
+                _ if is_new && self.is_given_up(wait) => "unlock",
                 _ => continue,
             };
-            let name = self.object_name(wait.reason.object());
+            let name = self.object_name(object);
             let title = format!(in self.alloc; "Who could {verb} {name}")?;
             page.put_line(title.as_str(), 0)?;
             for waiter in waits.iter().skip(at) {
