@@ -708,6 +708,11 @@ class Commands(Tester):
             text, err, found = self.run(["explain"] + words)
             self.compare(["explain"] + words, (text.split("\n")[-2], err, found),
                          ("Replay: ctxbound replay %s " % words[0] + ran.get(schedule, schedule), "", status))
+            head = self.run(["explain"] + words + ["--width", "1000"])[0].split("\n")[0]
+            is_told = " with 1 preemption. " in head
+            self.compare(["explain"] + words, head.split(". ")[-1], head if not is_told else
+                         "None with fewer preemptions is bad." if words == ["race.guest"] else
+                         "Its search doesn't say whether fewer preemptions are enough.")
             told, err, found = self.run(["explain"] + words + ["--json"])
             self.compare(["explain"] + words + ["--json"], (json.loads(told)["schedule"], err, found),
                          (schedule, "", status))

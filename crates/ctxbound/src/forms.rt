@@ -64,7 +64,7 @@ fn page(
     let layout = Layout {
         width: PAGE_WIDTH,
         steps: 0,
-        is_fewest: report.is_some_and(has_fewest_preemptions),
+        is_fewest: report.map(has_fewest_preemptions),
     };
     let why = why_text(alloc, explanation, source, layout)?;
     let why = String::from_utf8_lossy(alloc, why.as_slice())?;

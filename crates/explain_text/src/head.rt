@@ -49,12 +49,12 @@ impl TextWriter<'_> {
             .map_or(self.file_name(), |line| line.file)
     }
 
-    // As text, these counts; where a search showed it, that none with fewer preemptions is bad.
+    // As text, these counts, and whether the search showed that none with fewer preemptions is bad.
     fn counts_text(&self, steps: usize, preemptions: usize) -> Result<String, AllocError> {
-        let least = if self.layout.is_fewest && self.explanation.preemptions() > 0 {
-            " None with fewer preemptions is bad."
-        } else {
-            ""
+        let least = match self.layout.is_fewest.filter(|_| preemptions > 0) {
+            Some(true) => " None with fewer preemptions is bad.",
+            Some(false) => " Its search doesn't say whether fewer preemptions are enough.",
+            None => "",
         };
         let (steps, preemptions) = (Count(steps, "step"), Count(preemptions, "preemption"));
         format!(in self.alloc; "after {steps} with {preemptions}.{least}")

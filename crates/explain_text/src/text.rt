@@ -17,8 +17,8 @@ pub struct Layout {
     pub width: usize,
     /// A schedule of at most this many steps has a row for each; in a longer one some share rows.
     pub steps: usize,
-    /// Whether a search showed that no schedule with fewer preemptions is bad.
-    pub is_fewest: bool,
+    /// Whether a search that found it showed that no schedule with fewer preemptions is bad.
+    pub is_fewest: Option<bool>,
 }
 
 /// What writes the text of an explanation: the facts, their names, and the layout.
@@ -70,7 +70,7 @@ pub fn run_out_lines(
     let layout = Layout {
         width: 0,
         steps: 0,
-        is_fewest: false,
+        is_fewest: None,
     };
     TextWriter::new(alloc, explanation, source, layout)?.run_out_lines()
 }

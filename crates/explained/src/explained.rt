@@ -45,12 +45,14 @@ pub struct Text {
 }
 
 impl Render for Text {
-    // The explanation as text, or the sentence that a search found no bad schedule. The text also
-    // says where a search showed that no bad schedule has fewer preemptions.
+    // The explanation as text, or the sentence that a search found no bad schedule. Where a search
+    // found it the text also says whether that showed that no bad schedule has fewer preemptions.
     fn render(&self, alloc: Global, answer: &Explained, source: &Source<'_>, file: &str) -> Output {
         let (explanation, is_fewest) = match answer {
-            Explained::Asked(explanation) => (explanation, false),
-            Explained::Found(report, explanation) => (explanation, has_fewest_preemptions(report)),
+            Explained::Asked(explanation) => (explanation, None),
+            Explained::Found(report, explanation) => {
+                (explanation, Some(has_fewest_preemptions(report)))
+            }
             Explained::NoneFound(report) => {
                 return Ok(no_schedule_text(alloc, file, report)?.into_bytes());
             }
