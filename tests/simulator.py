@@ -185,6 +185,22 @@ def laid_out(block):
     return code
 
 
+def turns_in(block, outer=()):
+    """Of each instruction of a block the turns that it is in, each with how many its loop has, the outer loop first;
+    a loop with one turn doesn't count."""
+    turns = []
+    for statement in block:
+        if statement.word == "repeat":
+            of = statement.parts[0]
+            for turn in range(1, of + 1):
+                turns += turns_in(statement.blocks[0], outer + ((turn, of),) * (of > 1))
+        else:
+            turns.append(outer)
+            for at, inner in enumerate(statement.blocks):
+                turns += [outer] * (at == 1 and statement.has_else) + turns_in(inner, outer)
+    return turns
+
+
 def all_in(block):
     """The statements in a block that are carried out, in the order of the text."""
     for statement in block:
@@ -232,7 +248,9 @@ class Thread:
         self.events, self.origins, self.step = events, {}, None
         # The loops with a `leave` that it came out of last with no turn left.
         self.ran_out = []
-        self.code, self.place = laid_out(block), 0
+        self.code, self.turns_at, self.place = laid_out(block), turns_in(block), 0
+        # The statements that it carried out in a turn after the first, an `else` apart from its `if`.
+        self.again = set()
         self.status, self.stop = "running", None
         self.waits_on = None
         # Where it is in the tree: blocks with a place in them, branches of an `if` by their number, and bodies
@@ -253,6 +271,9 @@ class Thread:
 
     def note(self, statement, word, place, **told):
         """Puts down what happened at an instruction."""
+        turns = tuple((at + 1, of.parts[0]) for kind, of, at in self.path if kind == "repeat" and of.parts[0] > 1)
+        assert turns == self.turns_at[place], (turns, self.turns_at[place])
+        self.again |= {(id(statement), word == "else")} if any(turn > 1 for turn, _ in turns) else set()
         self.events.append({"at": len(self.events), "thread": self.number, "step": self.step, "place": place, "statement": statement,
                             "word": word, "uses": used_by(statement) if word != "else" else set(), **told})
 
@@ -310,6 +331,11 @@ class Thread:
         if which == 0 and statement.has_else and not left:
             self.note(statement, "else", place + 1 + size, passes=self.code[place + 1 + size][2])
         return left
+
+    def told_turns(self, place):
+        """The turns in which an instruction is that are told: where its statement was carried out in one after the first."""
+        statement, word, _ = self.code[place]
+        return self.turns_at[place] if (id(statement), word == "else") in self.again else ()
 
     def turns(self, statement, place):
         size = len(laid_out(statement.blocks[0]))
@@ -404,6 +430,7 @@ class Run:
         self.steps, self.carried, self.preemptions = [], [], 0
         self.since, self.failures = {}, []
         self.writers, self.origins_told = {}, []
+        self.step_events, self.turns_told = [], []
         self.opening = [{"name": t.name, "sets": t.sets, "next": self.next_of(t), "stop": t.stop} for t in self.threads]
         for thread in self.threads:
             self.note_failure(thread, None, None)
@@ -455,6 +482,7 @@ class Run:
         values = [word for word in words if word not in OPERATORS and not isinstance(word, int)]
         mutex = thread.at.parts[-1] if thread.stop == "not-held" else None
         moved = mutex and self.moved(mutex, len(self.events) - 1)
+        event = [event for event in self.events if event["thread"] == thread.number][-1]
         self.failures.append({
             "thread": thread.number, "name": thread.name, "step": step, "stop": thread.stop, **thread.at.place(),
             "text": thread.at.spelled(), "preemptions": self.preemptions, "mutex": mutex,
@@ -462,6 +490,7 @@ class Run:
             "ran_out": [{**one.place(), "turns": one.parts[0]} for one in thread.run_out()],
             "values": [{"local": name, "value": thread.locals.get(name, 0), "origins": self.origins(thread, name)}
                        for name in dict.fromkeys(values)]})
+        self.turns_told.append((self.failures[-1], event))
 
     def origins(self, thread, local):
         """The statements that the value of a local came from, each a statement that was carried out. When a variable was
@@ -471,6 +500,7 @@ class Run:
                  "text": event["statement"].spelled(), "step": event["step"], "since": None, "changed": None}
                 for event in events]
         self.origins_told += [pair for pair in zip(told, events) if used_variable(pair[1])]
+        self.turns_told += zip(told, events)
         return told
 
     def change(self, variable, places):
@@ -489,6 +519,15 @@ class Run:
         moves = [e for e in self.events[:at] if e["word"] in ("lock", "retake", "unlock", "wait") and not e.get("stops")
                  and e["statement"].parts[-1] == mutex]
         return moves[-1] if moves else None
+
+    def turns_of(self, event):
+        """The turns of the statement of an event, if they are told."""
+        turns = self.threads[event["thread"]].told_turns(event["place"])
+        return {"turns": [{"turn": turn, "of": of} for turn, of in turns]} if turns else {}
+
+    def tell_turns(self):
+        for told, event in self.turns_told + list(zip(self.steps, self.step_events)):
+            told.update(self.turns_of(event))
 
     def tell_changes(self):
         for told, event in self.origins_told:
@@ -521,6 +560,7 @@ class Run:
         owners = dict(self.owners)
         thread.step = told["step"]
         thread.note(statement, act, thread.place)
+        self.step_events.append(self.events[-1])
         goes_on = self.take(thread, act, name, told)
         if goes_on:
             thread.go_on()
@@ -678,9 +718,9 @@ class Run:
         told, waiting = [], [(t, self.blocked_by(t)) for t in self.threads if self.blocked_by(t)]
         if not (self.kind() == "stuck" or self.failures):
             return told
-        for why in dict.fromkeys(why for _, why in waiting if why[0] in ("signal", "acquire")):
-            told.append(({"acquire": "release"}.get(why[0], why[0]), why[1]))
-            those = [t for t, other in waiting if other == why]
+        for why in dict.fromkeys((self.ended_by(t, why), why[1]) for t, why in waiting if self.ended_by(t, why)):
+            told.append(why)
+            those = [t for t, other in waiting if other[1] == why[1]]
             for thread in those if why[0] == "signal" else []:
                 again, loaded = thread.look(self.values)
                 if again or loaded:
@@ -698,6 +738,14 @@ class Run:
                 if passes:
                     told.append((thread.name, "passed", len(passes), passes[-1] if len(passes) > 1 else None))
         return told
+
+    def ended_by(self, thread, why):
+        """By what statement the wait of a thread could end, if that is told: of a mutex where its owner ended and has
+        such statements."""
+        if why[0] in ("signal", "acquire"):
+            return {"acquire": "release"}.get(why[0], why[0])
+        owner = next(t for t in self.threads if t.name == self.owners[why[1]])
+        return "unlock" if owner.status == "ended" and any(True for _ in self.enders(thread)) else None
 
     def present(self, thread, name):
         """A variable's value at the end, and the one that a thread loaded last, with its step."""
@@ -798,6 +846,7 @@ def explanation(name, text, schedule, search):
     refused = run.carry_out(schedule)
     kind, causes = run.kind(), run.causes()
     run.tell_changes()
+    run.tell_turns()
     events = [event for at, event in enumerate(run.with_ends()) if at in causes]
     steps = {event["step"] for event in events}
     for step in run.steps:
@@ -809,7 +858,7 @@ def explanation(name, text, schedule, search):
             "steps": run.steps, "threads": [run.thread_at_end(t) for t in run.threads], "circles": run.circles(),
             "failures": run.failures, "end": run.end(),
             "tests": [{"name": run.threads[event["thread"]].name, **event["statement"].place(), "step": event["step"],
-                       "text": event["statement"].spelled(), "was": event["was"]}
+                       "text": event["statement"].spelled(), "was": event["was"], **run.turns_of(event)}
                       for event in events if event["word"] == "if"]}
     return told, 2 if refused is not None else int(kind in ("failed", "stuck"))
 
@@ -837,11 +886,19 @@ class Sentences:
         told = origin or {"file": self.file, "line": line}
         return "%(file)s:%(line)d" % told if self.has_files else "line %(line)d" % told
 
-    def site(self, statement):
-        return "%s: %s" % (self.line(statement), statement.spelled())
+    def line_at(self, thread, place):
+        """The line of an instruction, with its turns."""
+        turns = self.run.threads[thread].told_turns(place)
+        return self.line(self.run.threads[thread].code[place][0]) + "".join(", turn %d of %d" % one for one in turns)
 
-    def line_of_step(self, step):
-        return self.line(self.run.carried[step][1])
+    def line_in(self, event):
+        return self.line_at(event["thread"], event["place"])
+
+    def site_at(self, thread, place):
+        return "%s: %s" % (self.line_at(thread, place), self.run.threads[thread].code[place][0].spelled())
+
+    def site(self, event):
+        return self.site_at(event["thread"], event["place"])
 
     def last(self, at, so):
         """The last event before a place that is so, or None."""
@@ -867,9 +924,9 @@ class Sentences:
             return ["    %s is free" % name]
         if taken["word"] in ("unlock", "wait"):
             return ["    %s is free since step %d (%s, %s)" % (
-                name, taken["step"], self.run.threads[taken["thread"]].name, self.site(taken["statement"]))]
+                name, taken["step"], self.run.threads[taken["thread"]].name, self.site(taken))]
         return ["    %s is held by %s (since step %d, %s)" % (
-            name, self.run.threads[taken["thread"]].name, taken["step"], self.line(taken["statement"]))]
+            name, self.run.threads[taken["thread"]].name, taken["step"], self.line_in(taken))]
 
     def tests(self, end):
         """The tests in the cause before a failure, the last one first, each statement once and four at most: what was come
@@ -885,10 +942,11 @@ class Sentences:
             goal = next((self.events[k] for k in led if self.events[k]["word"] != "if"), None)
             read = {self.events[k].get("reads") for k in causes if at < k < len(self.events)} - {None}
             passed = next((k for k, name in enumerate(self.run.written(test), test["place"] + 1) if name in read), None)
-            came = "came here" if end in led else "came to %s," % self.site(goal["statement"]) if goal else \
-                "passed by %s," % self.site(self.run.threads[test["thread"]].code[passed][0])
-            lines.append("    %s%s since `%s` in %s was %s" % (
-                "" if end in led else thread + " ", came, test["statement"].spelled(), self.line(test["statement"]),
+            came = "came here" if end in led else "came to %s," % self.site(goal) if goal else \
+                "passed by %s," % self.site_at(test["thread"], passed)
+            line = self.line_in(test)
+            lines.append("    %s%s since `%s` in %s%s was %s" % (
+                "" if end in led else thread + " ", came, test["statement"].spelled(), line, "," * ("turn" in line),
                 "true" if test["was"] else "false"))
             lines += self.values(at, test["statement"].parts[0], 6, 3, True)
         return lines
@@ -922,10 +980,10 @@ class Sentences:
 
     def origin(self, event, is_change_told):
         """Where the value came from that an event gave a local."""
-        site, step, variable = self.site(event["statement"]), event["step"], event.get("reads")
+        site, step, variable = self.site(event), event["step"], event.get("reads")
         if event["word"] == "set":
             return "set in " + site
-        words = {"load": "loaded in step %d (%s) from %s" % (step, self.line(event["statement"]), variable),
+        words = {"load": "loaded in step %d (%s) from %s" % (step, self.line_in(event), variable),
                  "add": "read in step %d (%s) from %s" % (step, site, variable),
                  "cas": "since step %d %s (%s): %s was %d" % (
                      step, "hit" if event["value"] else "missed", site, variable, self.number(step, "old"))}[event["word"]]
@@ -935,7 +993,7 @@ class Sentences:
         else:
             since = self.run.changed_before(variable, writer["step"])
             words += ", which %s set in step %d (%s); before, %s was %d%s" % (
-                self.itself(writer["thread"], event["thread"]), writer["step"], self.site(writer["statement"]), variable,
+                self.itself(writer["thread"], event["thread"]), writer["step"], self.site(writer), variable,
                 self.number(writer["step"], "old"), self.since(since))
         change = self.run.changed_from(variable, step)
         if (is_change_told or writer is None) and change not in (None, step):
@@ -982,7 +1040,7 @@ class Sentences:
     def since(self, step):
         if step is None:
             return " from the start"
-        words = " since step %d (%s, %s)" % (step, self.steps[step]["name"], self.line_of_step(step))
+        words = " since step %d (%s, %s)" % (step, self.steps[step]["name"], self.line_in(self.run.step_events[step]))
         if self.steps[step]["preempting"]:
             words += ", where %s was interrupted" % self.steps[step - 1]["name"]
         return words
@@ -1004,6 +1062,15 @@ SHAPES = [
     ("sem a = 1; sem b = 1; thread A { acquire a; acquire b; release b; release a; } "
      "thread B { acquire b; acquire a; release a; release b; }", "0,1"),
     ("sem a = 0; var x; thread A { load r x; if r { release a; } else { store x 2; } } thread B { acquire a; }", "0x2"),
+    # A mutex whose owner ended, having passed its unlock by; and one whose owner stopped before it.
+    ("mutex m; var x; thread A { lock m; load r x; if r { unlock m; } } thread B { lock m; unlock m; }", "0x2"),
+    ("mutex m; thread A { lock m; assert 0; unlock m; } thread B { lock m; unlock m; }", "0"),
+    # Turns of nested loops, beside a loop with one; and tests in a loop, with an `else` in the same turn.
+    ("var x; thread A { repeat 2 { repeat 1 { repeat 3 { add r x 1; assert r < 4; } } } } thread B { load r x; "
+     "repeat 2 { load q x; assert r != 3; } }", "0x5"),
+    ("var x; thread A { repeat 3 { add r x 1; assert r < 2; } }", "0x3"),
+    ("var x; thread A { repeat 3 { load r x; if r == 1 { store x 2; } else { add q x 1; } } load q x; assert q == 0; }",
+     "0x7"),
     # A release that is passed by twice, in two turns; the second test found what was written between.
     ("var x; sem s = 0; thread A { acquire s; } thread B { repeat 2 { load r x; if r == 1 { release s; } } } "
      "thread C { store x 2; }", "1,2,1"),
@@ -1324,6 +1391,7 @@ class Explanations(Tester):
         got = said(self.run("explain", name, words, "--width", 1000, cwd=ROOT).out) if want else []
         self.expect("sentences of %s %s" % (name, words), got == want, repr(got), repr(want))
         self.told.update(one[1] for one in want if len(one) > 2 or one[1] in ("has yet to", "may"))
+        self.told.update(one[0] for one in want if one[0] == "unlock")
 
     def searched(self, name, text, words):
         """A schedule that a search finds, with the report of that search: as far as a bound says; else up to the greatest
@@ -1347,7 +1415,7 @@ class Explanations(Tester):
             self.expect("%s is always %r, so nothing is seen of it" % (at, values),
                         len(values) > 1 or values == {"an object"} or at in ALIKE)
         self.expect("each sentence was seen: %r" % self.told,
-                    self.told == {"wait again", "go on", "has yet to", "may", "passed"})
+                    self.told == {"wait again", "go on", "has yet to", "may", "passed", "unlock"})
 
     def notices(self, told):
         """The comparison notices each field that is changed, left out or put in."""

@@ -8,8 +8,8 @@
 
 mod assignments;
 mod explanation;
+mod loops;
 mod object;
-mod repeats;
 mod source;
 mod statement;
 mod step;
@@ -17,8 +17,8 @@ mod thread_state;
 
 pub use crate::assignments::Assignment;
 pub use crate::explanation::{Explanation, Holder, Start};
+pub use crate::loops::{Repeat, repeats};
 pub use crate::object::{Object, ObjectState};
-pub use crate::repeats::{Repeat, repeats};
 pub use crate::source::Source;
 pub use crate::statement::{Statement, name_text, op_text};
 pub use crate::step::Step;
