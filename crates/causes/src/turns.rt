@@ -111,9 +111,14 @@ fn loops_of(
     repeats: &[Repeat],
 ) -> Result<Vec<Loop>, AllocError> {
     let mut loops = Vec::new(alloc);
+    let is_there = thread < source.program.threads();
+    let length = if is_there {
+        source.program.code(thread).len()
+    } else {
+        0
+    };
     for (at, repeat) in repeats.iter().enumerate() {
-        let code = 0..source.program.code(thread).len();
-        let mut inside = code.filter(|i| repeat.contains(source.place(thread, *i)));
+        let mut inside = (0..length).filter(|i| repeat.contains(source.place(thread, *i)));
         if repeat.turns > 1
             && let Some(first) = inside.next()
         {
