@@ -70,8 +70,8 @@ impl Found {
     }
 
     // Defers steps of the threads `past`, whose least is `first`, from the node to which the first
-    // `place` of `steps` lead: lists the prefixes that end in these steps, each past the bound.
-    #[inline(always)]
+    // `place` of `steps` lead: lists the prefixes that end in these steps, each past the bound. With
+    // `inline(always)` a run would be too large to be inlined itself.
     fn defer_all(
         &mut self,
         steps: &mut Vec<u8>,

@@ -61,8 +61,9 @@ fn queue_index(program: &Program, condition: usize) -> usize
 }
 
 // Does a thread's action on a variable. `shared` has the variables' values, `own` those of the
-// thread's locals. Answers the thread's status after that: it runs on.
-#[inline(always)]
+// thread's locals. Answers the thread's status after that: it runs on. With `inline(always)` a run
+// would be too large to be inlined itself.
+#[inline]
 fn access_variable(
     shared: &mut [i64],
     own: &mut [i64],
