@@ -1,16 +1,12 @@
 -- What the call that drops items does: which it drops, and how many.
-use Rattle.std.proofs.Common.{◌≡◌, ℕ, suc, ◌+◌, Bool, true, false, cond, ◌&&◌, ◌||◌, not, nat_lt, List, [], ◌∷◌, length, Some, None, refl, ap, ◌∙◌, sym, subst, arith}
+use Rattle.std.proofs.Common.{◌≡◌, ℕ, ◌+◌, Bool, true, false, cond, ◌&&◌, ◌||◌, not, nat_lt, List, [], ◌∷◌, Some, None, refl, ap, ◌∙◌, sym, subst, arith}
 use Rattle.std.specs.List.{filter, list_any, count_by}
 use Rattle.std.proofs.lemmas.Bool.Decides.{nat_tests}
-use Rattle.std.proofs.lemmas.List.Sums.{sum_by-append}
 use Rattle.items.specs.Items.{ItemView}
-use Rattle.book.specs.Quick.{is_later}
+use Rattle.prefix_list.specs.PrefixLists.{is_later}
+use Rattle.prefix_list.proofs.Later.{count_first}
 use Rattle.book.specs.Books.{BookView, Keeps, cannot_hold, drops, thinned}
 use Rattle.book.proofs.Thinned.{all_kept, thins}
-
-count_first : {A : Type 0} (f : A → Bool) (x : A) (xs : List A) →
-    count_by f (x ∷ xs) ≡ (0 + cond (f x) 1 0) + count_by f xs
-count_first f x xs = sum_by-append _ (x ∷ []) xs
 
 pub count_none : (f : ItemView → Bool) (xs : List ItemView) → list_any f xs ≡ false →
     count_by f xs ≡ 0
@@ -33,19 +29,6 @@ some_counted f (x ∷ xs) = go (f x) (some_counted f xs) ∙ ap (nat_lt 0) (sym 
         grind (arith, nat_tests) in sym l
     go false r = let e : (0 + 0) + count_by f xs ≡ count_by f xs =
         omega arith in r ∙ ap (nat_lt 0) (sym e)
-
-pub left_and_dropped : {A : Type 0} (f : A → Bool) (xs : List A) →
-    length (filter (λ i. not (f i)) xs) + count_by f xs ≡ length xs
-left_and_dropped f [] = refl
-left_and_dropped f (x ∷ xs) =
-    ap (λ n. length (filter (λ i. not (f i)) (x ∷ xs)) + n) (count_first f x xs)
-    ∙ go (f x) (left_and_dropped f xs)
-  where
-    go : (b : Bool) → length (filter (λ i. not (f i)) xs) + count_by f xs ≡ length xs →
-        length (cond (not b) (x ∷ filter (λ i. not (f i)) xs) (filter (λ i. not (f i)) xs))
-        + ((0 + cond b 1 0) + count_by f xs) ≡ suc (length xs)
-    go true r = omega (arith, r)
-    go false r = omega (arith, r)
 
 -- where no item is dropped
 

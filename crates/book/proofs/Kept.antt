@@ -1,5 +1,5 @@
 -- What the type of a book keeps, whether it lists what its bound puts off or not.
-use Rattle.std.proofs.Common.{◌≡◌, ℕ, ◌≤◌, ◌+◌, Bool, true, false, List, [], ◌++◌, sym, subst, arith}
+use Rattle.std.proofs.Common.{◌≡◌, ℕ, ◌≤◌, Bool, true, false, List, [], ◌++◌, sym, subst, arith}
 use Rattle.std.specs.List.{All}
 use Rattle.schedules.specs.Schedules.{begins_with}
 use Rattle.items.specs.Items.{covers}

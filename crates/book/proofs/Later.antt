@@ -1,10 +1,10 @@
 -- What comes after a schedule.
-use Rattle.std.proofs.Common.{◌≡◌, ℕ, zero, suc, ◌≤◌, Bool, true, false, cond, ◌&&◌, ◌||◌, nat_eq, nat_lt, List, [], ◌∷◌, length, drop, Option, Some, None, refl, ◌∙◌, sym, subst, arith, inl, inr, ◌⊎◌}
+use Rattle.std.proofs.Common.{◌≡◌, ℕ, Bool, true, false, cond, ◌&&◌, ◌||◌, nat_eq, nat_lt, List, [], ◌∷◌, Option, Some, None, refl, ◌∙◌, sym, subst, arith}
 use Rattle.std.proofs.lemmas.Bool.Decides.{nat_tests}
 use Rattle.schedules.specs.Schedules.{begins_with}
 use Rattle.schedules.specs.Order.{precedes, lesser}
 use Rattle.schedules.proofs.LeastSchedule.{before_later, never_before_itself}
-use Rattle.book.specs.Quick.{is_later}
+use Rattle.prefix_list.specs.PrefixLists.{is_later}
 
 pub later_precedes : (w p : List ℕ) → is_later w p ≡ true → precedes w p ≡ true
 later_precedes [] p h = cc
@@ -86,20 +86,3 @@ pub after_more : (w v : List ℕ) (o : Option (List ℕ)) →
     ((p : List ℕ) → precedes w p ≡ true → precedes v p ≡ true) → IsAfter w o → IsAfter v o
 after_more w v None f h = h
 after_more w v (Some u) f h = f u h
-
--- place by place
-
-pub later_past : (w p : List ℕ) (k : ℕ) → (length w ≤ k) ⊎ (length p ≤ k) →
-    is_later (drop k w) (drop k p) ≡ false
-later_past [] p zero h = refl
-later_past [] p (suc k) h = refl
-later_past (u ∷ w) [] zero h = refl
-later_past (u ∷ w) [] (suc k) h = none (drop k w)
-  where
-    none : (w : List ℕ) → is_later w [] ≡ false
-    none [] = refl
-    none (u ∷ w) = refl
-later_past (u ∷ w) (t ∷ p) zero (inl h) = absurd (omega (arith, h))
-later_past (u ∷ w) (t ∷ p) zero (inr h) = absurd (omega (arith, h))
-later_past (u ∷ w) (t ∷ p) (suc k) (inl h) = later_past w p k (inl (omega (arith, h)))
-later_past (u ∷ w) (t ∷ p) (suc k) (inr h) = later_past w p k (inr (omega (arith, h)))

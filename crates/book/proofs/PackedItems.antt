@@ -1,13 +1,13 @@
 -- Items of packed prefixes, read from the last on.
-use Rattle.std.proofs.Common.{◌≡◌, ℕ, zero, suc, Option, Some, None, Result, Ok, Err, IfSome, IfNone, IfOk, slice_get, ◌+◌, ◌-◌, ◌<◌, ◌≤◌, List, [], ◌∷◌, ◌++◌, length, get_or, take, drop, map, min, refl, ap, sym, ◌∙◌, subst, arith, length-append, length-take, ⊎_elim}
-use Rattle.std.specs.List.{All}
+use Rattle.std.proofs.Common.{◌≡◌, ℕ, zero, suc, Bool, true, false, cond, not, Option, Some, None, Result, Ok, Err, IfSome, IfNone, IfOk, slice_get, ◌+◌, ◌-◌, ◌<◌, ◌≤◌, List, [], ◌∷◌, ◌++◌, length, get_or, take, drop, map, min, refl, ap, sym, ◌∙◌, subst, arith, length-append, length-take, ⊎_elim}
+use Rattle.std.specs.List.{All, filter}
 use Rattle.std.proofs.lemmas.List.Elements.{All-nil, All-cons, All-append, All-head, All-tail, All-weaker}
 use Rattle.std.proofs.lemmas.Bool.{cases_lt}
 use Rattle.std.proofs.lemmas.List.{drop-map, take_all, drop_at, drop_all, drop-drop, drop-append-le, length-map, take-append-drop, get_or-take}
 use Rattle.guest_code.specs.Program.{Program}
 use Rattle.semantics.specs.Mask.{no_threads}
 use Rattle.items.specs.Items.{ItemView, AreOf, IsItem, item_at}
-use Rattle.prefix_list.specs.PrefixLists.{last_of}
+use Rattle.prefix_list.specs.PrefixLists.{last_of, is_later}
 use Rattle.items.specs.Walks.{IsBelow, items_at}
 use Rattle.items.proofs.ListParts.{all_left, all_right}
 use Rattle.book.specs.ItemLists.{ListView, all_of}
@@ -224,3 +224,19 @@ still_own p old new same own =
     (subst (AreOf p) (sym same)
     (All-append (λ (i : ItemView). i.program ≡ p) (items_at p old.packed) old.unpacked
     (items_own p old.packed) own))
+
+-- the items of the prefixes that don't come after a schedule
+pub items_left : (p : Program) (s : List ℕ) (ws : List (List ℕ)) →
+    items_at p (filter (λ w. not (is_later s w)) ws)
+    ≡ filter (λ i. not (is_later s i.prefix)) (items_at p ws)
+items_left p s [] = refl
+items_left p s (w ∷ ws) = go (not (is_later s w)) (items_left p s ws)
+  where
+    go : (b : Bool) → items_at p (filter (λ v. not (is_later s v)) ws)
+        ≡ filter (λ i. not (is_later s i.prefix)) (items_at p ws) →
+        items_at p (cond b (w ∷ filter (λ v. not (is_later s v)) ws)
+        (filter (λ v. not (is_later s v)) ws))
+        ≡ cond b (item_at p w ∷ filter (λ i. not (is_later s i.prefix)) (items_at p ws))
+        (filter (λ i. not (is_later s i.prefix)) (items_at p ws))
+    go true e = ap (λ is. item_at p w ∷ is) e
+    go false e = e

@@ -1,9 +1,8 @@
 -- Lists that grow by what a walk left, and shrink again where a later step is refused.
 use Rattle.std.specs.declared.alloc.AllocError.{AllocError}
-use Rattle.std.proofs.Common.{◌≡◌, ℕ, ◌≤◌, Bool, true, false, Option, None, List, [], ◌∷◌, ◌++◌, length, take, refl, ap, sym, ◌∙◌, arith, append_assoc, Result, Ok, Err, OnOk, is_ok, if◌then◌else◌}
+use Rattle.std.proofs.Common.{◌≡◌, ℕ, ◌≤◌, List, [], ◌∷◌, ◌++◌, length, take, refl, ap, sym, ◌∙◌, arith, append_assoc, Result, Ok, Err, OnOk, is_ok, if◌then◌else◌}
 use Rattle.std.specs.List.{remove}
 use Rattle.std.proofs.lemmas.List.{take_at}
-use Rattle.schedules.specs.Order.{lesser}
 use Rattle.guest_code.specs.Program.{Program}
 use Rattle.summary.specs.Summaries.{SummaryView}
 use Rattle.items.specs.Items.{ItemView}
@@ -63,23 +62,6 @@ pub on_settled : (r : Result (Unit {0}) AllocError) (new then_new else_new : Boo
     (P : Type 0) → new ≡ (if is_ok r then then_new else else_new) → (new ≡ then_new → P) → OnOk r P
 on_settled (Ok x) new then_new else_new P e f = f e
 on_settled (Err x) new then_new else_new P e f = tt
-
--- where a quick book has found a bad schedule it packs no more
-pub packs_none : (packs quick : Bool) (first part : Option (List ℕ)) →
-    (packs ≡ true → quick ≡ true → (first ≡ None) × (part ≡ None)) → quick ≡ true →
-    (first ≡ None → ⊥) → packs ≡ false
-packs_none true quick first part h q bad = absurd (bad (h refl q).0)
-packs_none false quick first part h q bad = refl
-
-pub unpacked_after : (packs quick : Bool) (first part after : Option (List ℕ))
-    (open_items deferred : List (List ℕ)) →
-    (packs ≡ true → quick ≡ true → (first ≡ None) × (part ≡ None)) →
-    (packs ≡ false → (open_items ≡ []) × (deferred ≡ [])) → after ≡ lesser first part →
-    quick ≡ true → (after ≡ None → ⊥) → (open_items ≡ []) × (deferred ≡ [])
-unpacked_after true quick first part after open_items deferred h k e q bad =
-    let none = h refl q in
-    absurd (bad (e ∙ (λ i. lesser (none.0 i) (none.1 i))))
-unpacked_after false quick first part after open_items deferred h k e q bad = k refl
 
 pub none_there : (packed : List (List ℕ)) (n : ℕ) → length packed ≤ n → n ≡ 0 → packed ≡ []
 none_there [] n h e = refl

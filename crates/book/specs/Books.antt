@@ -12,7 +12,7 @@ use Rattle.items.specs.Items.{ItemView, root_of, schedules_of}
 use Rattle.walk.specs.declared.found.Found.{Found}
 use Rattle.items.specs.Walks.{WalkView, IsSplit, IsWalked, IsWithin, items_at, listed_if}
 use Rattle.book.specs.declared.limits.TheConstants.{ROUND}
-use Rattle.book.specs.Quick.{is_later}
+use Rattle.prefix_list.specs.PrefixLists.{is_later}
 use Rattle.book.specs.ItemLists.{ListView, all_of}
 use Rattle.book.specs.declared.errors.SettleError.{SettleError}
 use Rattle.book.specs.declared.errors.SettleError.TheVariants.{NotOpen, Stranger, OutOfMemory}

@@ -1,5 +1,5 @@
 -- How a book holds its items.
-use Rattle.std.specs.Prelude.{◌≡◌, ℕ, Bool, true, List, [], ◌++◌, Option, None}
+use Rattle.std.specs.Prelude.{ℕ, List, ◌++◌}
 use Rattle.std.specs.declared.alloc.Global.{Global}
 use Rattle.std.specs.declared.collections.VecDeque.{VecDeque}
 use Rattle.std.specs.VecDeque.{deque_capacity}
@@ -25,8 +25,3 @@ list_view packed unpacked = record {
 -- the items of a list, which are of this program
 abbrev pub all_of : Program → ListView → List ItemView
 all_of p l = items_at p l.packed ++ l.unpacked
-
--- a quick book that found a bad schedule, and so drops items in place, packs none
-abbrev pub IsUnpacked : Bool → Option (List ℕ) → ListView → ListView → Type 0
-IsUnpacked quick first_bad open_items deferred =
-    quick ≡ true → (first_bad ≡ None → ⊥) → (open_items.packed ≡ []) × (deferred.packed ≡ [])

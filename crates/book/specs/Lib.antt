@@ -1,5 +1,4 @@
 pub mod ItemLists
-pub mod Quick
 pub mod Books
 pub mod Lending
 pub mod Progress

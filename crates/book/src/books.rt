@@ -12,13 +12,13 @@ ghost use Rattle.summary.specs.Summaries.{IsBoundedBy};
 ghost use Rattle.book.specs.Books.{Keeps, drops, thinned, opening, opening_of, HasWalkedRound, HaveFound, HaveSettled, AreNotTaken, taken_in, remove_each, AreWithin, Settles, IsRefused, Raises, IsNotRaised, IsClosed, bound_of, made_last};
 
 use crate::errors::{RaiseError, SettleError};
-use crate::item_list::{ItemList, is_later};
+use crate::item_list::ItemList;
 use crate::limits::ROUND;
 use guest_code::program::Program;
 use items::item::{Item, same_masks};
 use items::limits::BOUND;
 use items::mode::Mode;
-use prefix_list::Prefixes;
+use prefix_list::{Prefixes, is_later};
 use semantics::mask::Mask;
 use std::alloc::{AllocError, Global};
 use std::marker::Model;
@@ -60,7 +60,6 @@ pub struct Book {
 
 impl Model for Book {
     ghost use Rattle.book.specs.Books.{BookView, Keeps, IsSwept, book_view};
-    ghost use Rattle.book.specs.ItemLists.{IsUnpacked};
 
     ghost Value = { BookView };
 
@@ -69,8 +68,7 @@ impl Model for Book {
 
     ghost invariant = { λ b. Keeps (book_view b.of b.mode b.finished b.open_items b.deferred
         b.lists b.quick b.dropped) × IsSwept b.swept
-        (book_view b.of b.mode b.finished b.open_items b.deferred b.lists b.quick b.dropped)
-        × IsUnpacked b.quick b.finished.first_bad b.open_items b.deferred };
+        (book_view b.of b.mode b.finished b.open_items b.deferred b.lists b.quick b.dropped) };
 }
 
 impl Book {
@@ -421,9 +419,8 @@ impl Book {
 
     // Settles what walks found of the open items at `places`, none of which is below `first`. Each
     // place is counted without the items of the places before it in `places`. Unpacks the open
-    // items from `first` on, or, where `may_pack` says no, all open and deferred ones. All that
-    // takes memory comes first, so that the book is as before where it runs out. The memory of
-    // `found` serves later walks.
+    // items from `first` on. All that takes memory comes first, so that the book is as before where
+    // it runs out. The memory of `found` serves later walks.
     fn settle_at(
         &mut self,
         alloc: Global,
@@ -440,18 +437,13 @@ impl Book {
         ensures found { OnErr result (found.new ≡ found.old) }
     {
         let program = self.of.shared_program();
-        let packs = may_pack(self.quick, &self.finished, &found.part);
-        self.open_items
-            .unpack_from(alloc, program, unpack_start(packs, first))?;
+        self.open_items.unpack_from(alloc, program, first)?;
         let deferred_len = self.deferred.len();
-        self.deferred
-            .unpack_from(alloc, program, unpack_start(packs, deferred_len))?;
         let quiet = adds_nothing_to_drop(found);
         self.open_items.reserve(found.rest.len())?;
         let none = Prefixes::new(alloc);
         let listed = listed_prefixes(self.lists, &found.deferred, &none);
-        self.deferred
-            .append_prefixes(alloc, program, listed, packs)?;
+        self.deferred.append_prefixes(alloc, program, listed)?;
         if let Err(error) = self.finished.join_in(&mut self.hints, &mut found.part) {
             self.deferred.truncate(deferred_len);
             return Err(error);
@@ -548,25 +540,6 @@ fn next_mode(mode: Mode) -> Option<Mode>
         }
         Mode::Reduced => None,
     }
-}
-
-// Whether a book may pack items, that is, store them as prefixes alone, once walks are settled that
-// found this `part`. A quick book may not once `finished` or `part` has a bad schedule, since it
-// then drops items, and only unpacked ones can be dropped.
-pub(crate) fn may_pack(quick: bool, finished: &Summary, part: &Summary) -> bool
-    ensures { IsTrue result → quick ≡ true →
-        (finished.now.first_bad ≡ None) × (part.now.first_bad ≡ None) }
-{
-    !quick || (finished.first_bad().is_none() && part.first_bad().is_none())
-}
-
-// From which place on all items of a list have to be unpacked: from `place` where the book `packs`
-// items, else from 0.
-pub(crate) fn unpack_start(packs: bool, place: usize) -> usize
-    ensures place { result ≤ place }
-    ensures none { packs ≡ false → result ≡ 0 }
-{
-    if packs { place } else { 0 }
 }
 
 // Whether walks found no bad schedule and left no item open: a quick book that settles them has no

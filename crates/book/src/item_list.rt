@@ -5,7 +5,7 @@ ghost use Rattle.std.specs.Arc.{arc_value};
 ghost use Rattle.guest_code.specs.Program.{Program};
 ghost use Rattle.items.specs.Items.{ItemView, AreOf, IsItem};
 ghost use Rattle.items.specs.Walks.{items_at};
-ghost use Rattle.book.specs.Quick.{is_later};
+ghost use Rattle.prefix_list.specs.PrefixLists.{is_later};
 ghost use Rattle.book.specs.ItemLists.{all_of};
 ghost use Rattle.std.specs.List.{remove_range};
 ghost use Rattle.book.specs.Books.{remove_each, AreWithin, AreOpenAt, StandInOrder};
@@ -14,7 +14,7 @@ use crate::limits::ROUND;
 use guest_code::program::Program;
 use items::item::{Item, same_masks};
 use packed_items::{last_item, unpack_last_into};
-use prefix_list::Prefixes;
+use prefix_list::{Prefixes, is_later};
 use semantics::mask::Mask;
 use std::alloc::{AllocError, Global};
 use std::collections::VecDeque;
@@ -168,7 +168,6 @@ impl ItemList {
             all_of (arc_value program.now) self.old }
         ensures run { All IsItem (items_at (arc_value program.now) self.new.packed) }
         ensures unpacked { OnOk result (length self.new.packed ≤ place) }
-        ensures none { self.old.packed ≡ [] → self.new.packed ≡ [] }
     {
         while place < self.packed.len() {
             self.unpack_last(alloc, program)?;
@@ -226,7 +225,6 @@ impl ItemList {
         requires program { AreOf (arc_value program.now) items.now }
         ensures same { all_of (arc_value program.now) self.new ≡
             all_of (arc_value program.now) self.old }
-        ensures packed { self.old.packed ≡ [] → self.new.packed ≡ [] }
         ensures there { IfOk result (λ o. IfSome o (λ v.
             AreOpenAt (all_of (arc_value program.now) self.old) items.now places.now v.items)) }
         ensures none { IfOk result (λ o. IfNone o
@@ -337,24 +335,22 @@ impl ItemList {
         let _ = self.unpacked.append(&mut VecDeque::from_vec(taken));
     }
 
-    // Appends the items of prefixes after which no thread sleeps. They are packed if `packs` is set
-    // and the list has no unpacked item, since packed items come first; else they are unpacked.
-    // Where memory runs out, the list has the same items as before.
+    // Appends the items of prefixes after which no thread sleeps. They are packed if the list has no
+    // unpacked item, since packed items come first; else they are unpacked. Where memory runs out,
+    // the list has the same items as before.
     pub(crate) fn append_prefixes(
         &mut self,
         alloc: Global,
         program: &Arc<Program>,
         prefixes: &Prefixes,
-        packs: bool,
     ) -> Result<(), AllocError>
         requires { All IsItem (items_at (arc_value program.now) prefixes.now) }
         ensures all { all_of (arc_value program.now) self.new ≡ (if is_ok result
             then all_of (arc_value program.now) self.old
             ++ items_at (arc_value program.now) prefixes.now
             else all_of (arc_value program.now) self.old) }
-        ensures packed { packs ≡ false → self.new.packed ≡ self.old.packed }
     {
-        if packs && self.unpacked.is_empty() {
+        if self.unpacked.is_empty() {
             return self.packed.append(alloc, prefixes);
         }
         let mut items = Vec::new(alloc);
@@ -466,26 +462,25 @@ impl ItemList {
     // Keeps the list's first items, at most `length`, and drops the others. Takes no memory.
     pub(crate) fn truncate(&mut self, length: usize)
         ensures items { (p : Program) → all_of p self.new ≡ take length (all_of p self.old) }
-        ensures none { self.old.packed ≡ [] → self.new.packed ≡ [] }
     {
         let packed = self.packed.len();
         self.packed.truncate(length);
         self.unpacked.truncate(length.saturating_sub(packed));
     }
 
-    // Drops the items whose schedules all come after this schedule, and answers how many. No item
-    // may be packed. The hint goes back by that number, since up to as many were before it.
+    // Drops the items whose schedules all come after this schedule, and answers how many. Takes no
+    // memory. The hint goes back by the number of unpacked ones, since up to as many were before it.
     pub(crate) fn drop_later(&mut self, schedule: &[u8]) -> u64
-        requires { self.old.packed ≡ [] }
-        ensures packed { self.new.packed ≡ [] }
-        ensures unpacked { self.new.unpacked ≡
-            filter (λ i. not (is_later schedule.now i.prefix)) self.old.unpacked }
-        ensures number { result ≡
-            count_by (λ i. is_later schedule.now i.prefix) self.old.unpacked }
+        ensures items { (p : Program) → all_of p self.new ≡
+            filter (λ i. not (is_later schedule.now i.prefix)) (all_of p self.old) }
+        ensures number { (p : Program) → result ≡
+            count_by (λ i. is_later schedule.now i.prefix) (all_of p self.old) }
     {
+        let before = self.packed.len() + self.unpacked.len();
+        let _packed = self.packed.remove_later(schedule);
         let number = remove_later(&mut self.unpacked, schedule);
-        self.hint = self.hint.saturating_sub(number as usize);
-        number
+        self.hint = self.hint.saturating_sub(number);
+        (before - (self.packed.len() + self.unpacked.len())) as u64
     }
 }
 
@@ -575,22 +570,9 @@ fn same_steps(first: &[u8], second: &[u8]) -> bool
     first == second
 }
 
-// Whether a prefix has the greater step where it first differs from a schedule: all schedules that
-// begin with the prefix come after that schedule then. False where one begins with the other.
-pub(crate) fn is_later(schedule: &[u8], prefix: &[u8]) -> bool
-    ensures { result ≡ is_later schedule.now prefix.now }
-{
-    for k in 0..schedule.len().min(prefix.len()) {
-        if schedule[k] != prefix[k] {
-            return schedule[k] < prefix[k];
-        }
-    }
-    false
-}
-
 // Removes the items of a queue whose schedules all come after this schedule, by `is_later`, and
 // answers how many.
-fn remove_later(items: &mut VecDeque<Item>, schedule: &[u8]) -> u64
+fn remove_later(items: &mut VecDeque<Item>, schedule: &[u8]) -> usize
     ensures items { items.new.items ≡
         filter (λ i. not (is_later schedule.now i.prefix)) items.old.items }
     ensures number { result ≡
@@ -598,5 +580,5 @@ fn remove_later(items: &mut VecDeque<Item>, schedule: &[u8]) -> u64
 {
     let before = items.len();
     items.retain(|item| !is_later(schedule, item.prefix()));
-    (before - items.len()) as u64
+    before - items.len()
 }

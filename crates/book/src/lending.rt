@@ -7,7 +7,7 @@ ghost use Rattle.book.specs.Books.{Keeps, HaveFound, HaveSettled, places_from};
 ghost use Rattle.book.specs.Lending.{as_book, lending, Reorders, IsLoanOf, Has, Lends, IsNotSettled};
 ghost use Rattle.book.specs.Progress.{IsProgressOf};
 
-use crate::books::{Book, listed_prefixes, may_pack, unpack_start};
+use crate::books::{Book, listed_prefixes};
 use crate::item_list::ItemList;
 use crate::loan::Loan;
 use crate::progress::{Progress, mode_bound};
@@ -90,9 +90,8 @@ impl LendingBook {
         })
     }
 
-    /// The book, which lends no more: what was lent to workers follows its other open items. All
-    /// items are unpacked if it is quick and has a bad schedule, so that it can drop open ones.
-    /// Fails where memory runs out; the book is given up then.
+    /// The book, which lends no more: what was lent to workers follows its other open items. Fails
+    /// where memory runs out; the book is given up then.
     pub fn into_book(self, alloc: Global) -> Result<Book, AllocError>
         ensures { IfOk result (λ b. Reorders (as_book self) b) }
     {
@@ -102,7 +101,7 @@ impl LendingBook {
             finished,
             mut free,
             mut lent,
-            mut deferred,
+            deferred,
             lists,
             quick,
             hints,
@@ -111,11 +110,6 @@ impl LendingBook {
         while let Some(mut list) = lent.pop() {
             free.append_list(alloc, program, &mut list)?;
         }
-        let packs = may_pack(quick, &finished, &finished);
-        let first = unpack_start(packs, free.len());
-        free.unpack_from(alloc, program, first)?;
-        let first = unpack_start(packs, deferred.len());
-        deferred.unpack_from(alloc, program, first)?;
         Ok(Book {
             of,
             mode,
@@ -234,7 +228,7 @@ impl LendingBook {
         let deferred_len = self.deferred.len();
         let none = Prefixes::new(alloc);
         let listed = listed_prefixes(self.lists, &found.deferred, &none);
-        self.deferred.append_prefixes(alloc, program, listed, true)?;
+        self.deferred.append_prefixes(alloc, program, listed)?;
         if let Err(error) = self.finished.join_in(&mut self.hints, &mut found.part) {
             self.deferred.truncate(deferred_len);
             return Err(error);

@@ -125,3 +125,30 @@ past_before kept more start end bytes last wanted es ee ek le em =
     common_past kept last (tail_of bytes) wanted (omega (arith, ek)) le in
     ap (λ x. kept + x) m
     ∙ (sym p ∙ ap (λ k. common_length (take k last ++ tail_of bytes) wanted) ek)
+
+get_or_left : (xs ys : List ℕ) (n : ℕ) → n < length xs → get_or (xs ++ ys) n 0 ≡ get_or xs n 0
+get_or_left [] ys n l = absurd (omega (arith, l))
+get_or_left (x ∷ xs) ys zero l = refl
+get_or_left (x ∷ xs) ys (suc n) l = get_or_left xs ys n (omega (arith, l))
+
+get_or_right : (xs ys : List ℕ) (k n : ℕ) → k ≡ length xs + n → get_or (xs ++ ys) k 0 ≡ get_or ys n 0
+get_or_right [] ys k n e = ap (λ j. get_or ys j 0) (omega (arith, e))
+get_or_right (x ∷ xs) ys zero n e = absurd (omega (arith, e))
+get_or_right (x ∷ xs) ys (suc k) n e = get_or_right xs ys k n (omega (arith, e))
+
+-- the step at a place of the prefix before another, where that is kept
+pub next_kept : (kept n : ℕ) (bytes last : List ℕ) → kept ≡ length last - dropped_of bytes →
+    n < kept → get_or last n 0 ≡ get_or (before bytes last) n 0
+next_kept kept n bytes last e l =
+    sym (get_or_left (take (length last - dropped_of bytes) last) (tail_of bytes) n
+    (omega (arith, e, l, length-take (length last - dropped_of bytes) last))
+    ∙ get_or-take (length last - dropped_of bytes) last n 0 (omega (arith, e, l)))
+
+-- and where it comes after what is kept
+pub next_past : (kept n start end : ℕ) (bytes last : List ℕ) → start ≡ start_of bytes →
+    end ≡ end_of bytes → kept ≡ length last - dropped_of bytes → kept ≤ length last →
+    get_or (take (end - start) (drop start bytes)) n 0 ≡ get_or (before bytes last) (kept + n) 0
+next_past kept n start end bytes last es ee ek le =
+    (λ i. get_or (take (ee i - es i) (drop (es i) bytes)) n 0)
+    ∙ sym (get_or_right (take (length last - dropped_of bytes) last) (tail_of bytes) (kept + n) n
+    (omega (arith, ek, le, length-take (length last - dropped_of bytes) last)))

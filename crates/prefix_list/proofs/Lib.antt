@@ -3,3 +3,5 @@ pub mod WayBytes
 pub mod PackedPrefixes
 pub mod GoingBack
 pub mod ListFields
+pub mod Marking
+pub mod Later

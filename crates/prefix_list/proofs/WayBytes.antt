@@ -4,14 +4,15 @@ use Rattle.std.specs.Int.{from_le_bytes, to_le_bytes, w64}
 use Rattle.std.proofs.lemmas.List.{get_or_push, length_push, take_at, drop_at}
 use Rattle.std.proofs.lemmas.Bool.{lt-ltb, le-ltb, cases_Bool, and_parts, ltb-true, and_right}
 use Rattle.std.proofs.lemmas.Nat.{from_le_bytes-to_le_bytes_8}
-use Rattle.prefix_list.specs.inner.Packed.{way_bytes, head_of, number_at, dropped_of, end_of, start_of, below_of, before}
+use Rattle.prefix_list.specs.inner.Packed.{mark, way_bytes, head_of, number_at, is_short, dropped_of, end_of, start_of, removed_of, below_of, before}
 
-pub record Reads (x t b : List ℕ) (d : ℕ) : Type 0 where
+pub record Reads (x t b : List ℕ) (d : ℕ) (g : Bool) : Type 0 where
   pub dropped : dropped_of b ≡ d
   pub start : start_of b ≡ length x
   pub end : end_of b ≡ length x + length t
   pub front : take (length x) b ≡ x
   pub tail : take (length x + length t - length x) (drop (length x) b) ≡ t
+  pub removed : removed_of b ≡ g
 
 head_of-push : (y : List ℕ) (h : ℕ) → head_of (y ++ h ∷ []) ≡ h
 unfolding head_of
@@ -30,168 +31,209 @@ tail_at : (x t r : List ℕ) → take (length x + length t - length x)
 tail_at x t r = rw (append_assoc x t r, drop_at x (t ++ r) (length x) refl)
     (take_at t r _ (omega arith))
 
-dropped_small : (b : List ℕ) (h : ℕ) → head_of b ≡ h → h < 240 → dropped_of b ≡ h / 16
+short_by : (b : List ℕ) (h : ℕ) → head_of b ≡ h → h % 16 < 15 → is_short b ≡ true
+unfolding is_short
+short_by b h e l = rw (e, lt-ltb (h % 16) 15 l) refl
+
+long_by : (b : List ℕ) (h : ℕ) → head_of b ≡ h → 15 ≤ h % 16 → is_short b ≡ false
+unfolding is_short
+long_by b h e l = rw (e, le-ltb (h % 16) 15 l) refl
+
+removed_by : (b : List ℕ) (h : ℕ) → head_of b ≡ h → 127 < h → removed_of b ≡ true
+unfolding removed_of
+removed_by b h e l = rw (e, lt-ltb 127 h l) refl
+
+stays_by : (b : List ℕ) (h : ℕ) → head_of b ≡ h → h ≤ 127 → removed_of b ≡ false
+unfolding removed_of
+stays_by b h e l = rw (e, le-ltb 127 h l) refl
+
+mark_by : (b : List ℕ) (h : ℕ) (g : Bool) → head_of b ≡ mark g + h → h ≤ 127 → removed_of b ≡ g
+mark_by b h true e l = removed_by b (128 + h) e (omega arith)
+mark_by b h false e l = stays_by b h (e ∙ omega arith) l
+
+dropped_small : (b : List ℕ) (h : ℕ) → head_of b ≡ h → h % 16 < 15 → dropped_of b ≡ h / 16 % 8
 unfolding dropped_of
-dropped_small b h e l = rw (e, lt-ltb h 240 l) refl
+dropped_small b h e l = rw (short_by b h e l, e) refl
 
-end_small : (b : List ℕ) (h : ℕ) → head_of b ≡ h → h < 240 → end_of b ≡ length b - 1
+end_small : (b : List ℕ) (h : ℕ) → head_of b ≡ h → h % 16 < 15 → end_of b ≡ length b - 1
 unfolding end_of
-end_small b h e l = rw (e, lt-ltb h 240 l) refl
+end_small b h e l = rw (short_by b h e l) refl
 
-start_small : (b : List ℕ) (h : ℕ) → head_of b ≡ h → h < 240 → start_of b ≡ end_of b - h % 16
+start_small : (b : List ℕ) (h : ℕ) → head_of b ≡ h → h % 16 < 15 →
+    start_of b ≡ end_of b - h % 16
 unfolding start_of
-start_small b h e l = rw (e, lt-ltb h 240 l) refl
+start_small b h e l = rw (short_by b h e l, e) refl
 
-dropped_large : (b : List ℕ) (h : ℕ) → head_of b ≡ h → 240 ≤ h → 17 ≤ length b
+dropped_large : (b : List ℕ) (h : ℕ) → head_of b ≡ h → 15 ≤ h % 16 → 17 ≤ length b
     → dropped_of b ≡ number_at (length b - 17) b
 unfolding dropped_of
-dropped_large b h e l long = rw (e, le-ltb h 240 l, le-ltb (length b) 17 long) refl
+dropped_large b h e l long = rw (long_by b h e l, le-ltb (length b) 17 long) refl
 
-end_large : (b : List ℕ) (h : ℕ) → head_of b ≡ h → 240 ≤ h → end_of b ≡ length b - 17
+end_large : (b : List ℕ) (h : ℕ) → head_of b ≡ h → 15 ≤ h % 16 → end_of b ≡ length b - 17
 unfolding end_of
-end_large b h e l = rw (e, le-ltb h 240 l) refl
+end_large b h e l = rw (long_by b h e l) refl
 
-start_large : (b : List ℕ) (h : ℕ) → head_of b ≡ h → 240 ≤ h → 17 ≤ length b
+start_large : (b : List ℕ) (h : ℕ) → head_of b ≡ h → 15 ≤ h % 16 → 17 ≤ length b
     → start_of b ≡ end_of b - number_at (length b - 9) b
 unfolding start_of
-start_large b h e l long = rw (e, le-ltb h 240 l, le-ltb (length b) 17 long) refl
+start_large b h e l long = rw (long_by b h e l, le-ltb (length b) 17 long) refl
 
-reads_small : (x t : List ℕ) (d : ℕ) → d < 15 → length t < 16
-    → Reads x t ((x ++ t) ++ (d * 16 + length t) ∷ []) d
-reads_small x t d small short =
-    let h = d * 16 + length t in
+-- what one byte says
+digits : (d n : ℕ) (g : Bool) → d < 8 → n < 15 →
+    ((mark g + (d * 16 + n)) / 16 % 8 ≡ d) × ((mark g + (d * 16 + n)) % 16 ≡ n)
+digits d n true small short = (omega arith, omega arith)
+digits d n false small short = (omega arith, omega arith)
+
+reads_small : (x t : List ℕ) (d : ℕ) (g : Bool) → d < 8 → length t < 15
+    → Reads x t ((x ++ t) ++ (mark g + (d * 16 + length t)) ∷ []) d g
+reads_small x t d g small short =
+    let h = mark g + (d * 16 + length t) in
     let b = (x ++ t) ++ h ∷ [] in
-    let e = head_of-push (x ++ t) h in
-    let low : h < 240 = omega arith in
+    let e : head_of b ≡ h = head_of-push (x ++ t) h in
+    let says = digits d (length t) g small short in
+    let low : h % 16 < 15 = omega (arith, says.1, short) in
     let long : length b ≡ length x + length t + 1 =
     omega (arith, length_push (x ++ t) h, length-append x t) in
     let end : end_of b ≡ length x + length t = omega (arith, end_small b h e low, long) in
     record {
-      dropped = dropped_small b h e low ∙ omega arith;
-      start = omega (arith, start_small b h e low, end);
+      dropped = dropped_small b h e low ∙ says.0;
+      start = omega (arith, start_small b h e low, end, says.1);
       end = end;
       front = front_at x t _;
       tail = tail_at x t _;
+      removed = mark_by b (d * 16 + length t) g e (omega arith);
     }
 
-large_bytes : List ℕ → List ℕ → ℕ → List ℕ
-large_bytes x t d = (x ++ t) ++ (to_le_bytes w64 d ++ (to_le_bytes w64 (length t) ++ 255 ∷ []))
+large_bytes : List ℕ → List ℕ → ℕ → ℕ → List ℕ
+large_bytes x t d h = (x ++ t) ++ (to_le_bytes w64 d ++ (to_le_bytes w64 (length t) ++ h ∷ []))
 
-length-large : (x t : List ℕ) (d : ℕ) → length (large_bytes x t d) ≡ length x + length t + 17
+length-large : (x t : List ℕ) (d h : ℕ) → length (large_bytes x t d h) ≡ length x + length t + 17
 unfolding large_bytes
-length-large x t d = omega (
+length-large x t d h = omega (
   arith,
   length-append (x ++ t)
-      (to_le_bytes w64 d ++ (to_le_bytes w64 (length t) ++ 255 ∷ [])),
+      (to_le_bytes w64 d ++ (to_le_bytes w64 (length t) ++ h ∷ [])),
   length-append x t,
 )
 
-head_of-large : (x t : List ℕ) (d : ℕ) → head_of (large_bytes x t d) ≡ 255
+head_of-large : (x t : List ℕ) (d h : ℕ) → head_of (large_bytes x t d h) ≡ h
 unfolding large_bytes
-head_of-large x t d =
+head_of-large x t d h =
     rw (
-      ← append_assoc (to_le_bytes w64 d) (to_le_bytes w64 (length t)) (255 ∷ []),
-      ← append_assoc (x ++ t) (to_le_bytes w64 d ++ to_le_bytes w64 (length t)) (255 ∷ []),
+      ← append_assoc (to_le_bytes w64 d) (to_le_bytes w64 (length t)) (h ∷ []),
+      ← append_assoc (x ++ t) (to_le_bytes w64 d ++ to_le_bytes w64 (length t)) (h ∷ []),
     )
-    (head_of-push _ 255)
+    (head_of-push _ h)
 
-first_number : (x t : List ℕ) (d i : ℕ) → d < 2 ^ 64 → i ≡ length x + length t
-    → number_at i (large_bytes x t d) ≡ d
+first_number : (x t : List ℕ) (d h i : ℕ) → d < 2 ^ 64 → i ≡ length x + length t
+    → number_at i (large_bytes x t d h) ≡ d
 unfolding large_bytes
-first_number x t d i fits at =
+first_number x t d h i fits at =
     number_at-append (x ++ t) (to_le_bytes w64 d) _ i refl (omega (arith, length-append x t)) ∙
     from_le_bytes-to_le_bytes_8 d fits
 
-second_number : (x t : List ℕ) (d i : ℕ) → length t < 2 ^ 64 → i ≡ length x + length t + 8
-    → number_at i (large_bytes x t d) ≡ length t
+second_number : (x t : List ℕ) (d h i : ℕ) → length t < 2 ^ 64 → i ≡ length x + length t + 8
+    → number_at i (large_bytes x t d h) ≡ length t
 unfolding large_bytes
-second_number x t d i fits at =
-    rw (← append_assoc (x ++ t) (to_le_bytes w64 d) (to_le_bytes w64 (length t) ++ 255 ∷ []))
+second_number x t d h i fits at =
+    rw (← append_assoc (x ++ t) (to_le_bytes w64 d) (to_le_bytes w64 (length t) ++ h ∷ []))
     (number_at-append ((x ++ t) ++ to_le_bytes w64 d) (to_le_bytes w64 (length t)) _ i refl
     (omega (arith, length-append (x ++ t) (to_le_bytes w64 d), length-append x t)) ∙
     from_le_bytes-to_le_bytes_8 (length t) fits)
 
-reads_large : (x t : List ℕ) (d : ℕ) → d < 2 ^ 64 → length t < 2 ^ 64
-    → Reads x t (large_bytes x t d) d
+no_digit : (g : Bool) → 15 ≤ (mark g + 15) % 16
+no_digit true = omega arith
+no_digit false = omega arith
+
+reads_large : (x t : List ℕ) (d : ℕ) (g : Bool) → d < 2 ^ 64 → length t < 2 ^ 64
+    → Reads x t (large_bytes x t d (mark g + 15)) d g
 unfolding large_bytes
-reads_large x t d fits short =
-    let b = large_bytes x t d in
-    let e = head_of-large x t d in
-    let high : 240 ≤ 255 = omega arith in
-    let l = length-large x t d in
+reads_large x t d g fits short =
+    let h = mark g + 15 in
+    let b = large_bytes x t d h in
+    let e : head_of b ≡ h = head_of-large x t d h in
+    let high = no_digit g in
+    let l = length-large x t d h in
     let long : 17 ≤ length b = omega (arith, l) in
-    let end : end_of b ≡ length x + length t = omega (arith, end_large b 255 e high, l) in
+    let end : end_of b ≡ length x + length t = omega (arith, end_large b h e high, l) in
     record {
-      dropped = dropped_large b 255 e high long ∙ first_number x t d _ fits (omega (arith, l));
+      dropped = dropped_large b h e high long ∙ first_number x t d h _ fits (omega (arith, l));
       start = omega (
         arith,
-        start_large b 255 e high long,
+        start_large b h e high long,
         end,
-        second_number x t d (length b - 9) short (omega (arith, l)),
+        second_number x t d h (length b - 9) short (omega (arith, l)),
       );
       end = end;
       front = front_at x t _;
       tail = tail_at x t _;
+      removed = mark_by b 15 g e (omega arith);
     }
 
-reads_by : (x t : List ℕ) (d : ℕ) (test : Bool) → (ltb d 15 && ltb (length t) 16) ≡ test
-    → d < 2 ^ 64 → length t < 2 ^ 64 → Reads x t (x ++ way_bytes d t) d
+reads_by : (x t : List ℕ) (d : ℕ) (g test : Bool) → (ltb d 8 && ltb (length t) 15) ≡ test
+    → d < 2 ^ 64 → length t < 2 ^ 64 → Reads x t (x ++ way_bytes d t g) d g
 unfolding way_bytes large_bytes
-reads_by x t d true e fits short =
+reads_by x t d g true e fits short =
     let p = and_parts _ _ e in
-    rw (e, ← append_assoc x t ((d * 16 + length t) ∷ []))
-    (reads_small x t d (ltb-true _ _ p.0) (ltb-true _ _ p.1))
-reads_by x t d false e fits short =
+    rw (e, ← append_assoc x t ((mark g + (d * 16 + length t)) ∷ []))
+    (reads_small x t d g (ltb-true _ _ p.0) (ltb-true _ _ p.1))
+reads_by x t d g false e fits short =
     rw (
       e,
-      append_assoc (t ++ to_le_bytes w64 d) (to_le_bytes w64 (length t)) (255 ∷ []),
-      append_assoc t (to_le_bytes w64 d) (to_le_bytes w64 (length t) ++ 255 ∷ []),
-      ← append_assoc x t (to_le_bytes w64 d ++ (to_le_bytes w64 (length t) ++ 255 ∷ [])),
+      append_assoc (t ++ to_le_bytes w64 d) (to_le_bytes w64 (length t)) ((mark g + 15) ∷ []),
+      append_assoc t (to_le_bytes w64 d) (to_le_bytes w64 (length t) ++ (mark g + 15) ∷ []),
+      ← append_assoc x t (to_le_bytes w64 d ++ (to_le_bytes w64 (length t) ++ (mark g + 15) ∷ [])),
     )
-    (reads_large x t d fits short)
+    (reads_large x t d g fits short)
 
-pub reads : (x t : List ℕ) (d : ℕ) → d < 2 ^ 64 → length t < 2 ^ 64
-    → Reads x t (x ++ way_bytes d t) d
-reads x t d fits short = reads_by x t d _ refl fits short
+pub reads : (x t : List ℕ) (d : ℕ) (g : Bool) → d < 2 ^ 64 → length t < 2 ^ 64
+    → Reads x t (x ++ way_bytes d t g) d g
+reads x t d g fits short = reads_by x t d g _ refl fits short
 
 -- the bytes below it, and the schedule that it leads to
-pub below_of-way : (x t : List ℕ) (d : ℕ) → d < 2 ^ 64 → length t < 2 ^ 64
-    → below_of (x ++ way_bytes d t) ≡ x
-below_of-way x t d fits short = let r = reads x t d fits short in rw r.start r.front
+pub below_of-way : (x t : List ℕ) (d : ℕ) (g : Bool) → d < 2 ^ 64 → length t < 2 ^ 64
+    → below_of (x ++ way_bytes d t g) ≡ x
+below_of-way x t d g fits short = let r = reads x t d g fits short in rw r.start r.front
 
-pub before-way : (x t : List ℕ) (d : ℕ) (last : List ℕ) → d < 2 ^ 64 → length t < 2 ^ 64
-    → before (x ++ way_bytes d t) last ≡ take (length last - d) last ++ t
-before-way x t d last fits short =
-    let r = reads x t d fits short in
+pub before-way : (x t : List ℕ) (d : ℕ) (g : Bool) (last : List ℕ) → d < 2 ^ 64
+    → length t < 2 ^ 64 → before (x ++ way_bytes d t g) last ≡ take (length last - d) last ++ t
+before-way x t d g last fits short =
+    let r = reads x t d g fits short in
     rw (r.dropped, r.start, r.end, r.tail) refl
 
-pub length-way : (d : ℕ) (t : List ℕ) → 1 ≤ length (way_bytes d t)
+-- and whether that is removed
+pub removed_of-way : (x t : List ℕ) (d : ℕ) (g : Bool) → d < 2 ^ 64 → length t < 2 ^ 64
+    → removed_of (x ++ way_bytes d t g) ≡ g
+removed_of-way x t d g fits short = (reads x t d g fits short).removed
+
+pub length-way : (d : ℕ) (t : List ℕ) (g : Bool) → 1 ≤ length (way_bytes d t g)
 unfolding way_bytes
-length-way d t =
+length-way d t g =
     ⊎_elim
-    (λ e. rw e (omega (arith, length_push t (d * 16 + length t))))
+    (λ e. rw e (omega (arith, length_push t (mark g + (d * 16 + length t)))))
     (λ e. rw e (omega (
       arith,
       length_push ((t ++ to_le_bytes w64 d) ++ to_le_bytes w64 (length t))
-          255,
+          (mark g + 15),
     )))
-    (cases_Bool (ltb d 15 && ltb (length t) 16))
+    (cases_Bool (ltb d 8 && ltb (length t) 15))
 
 -- what a writer leaves, from what each of its calls says
-pub small_way : (b t s new : List ℕ) (d v : ℕ) → d < 15 → length t < 16 → s ≡ b ++ t
-    → v ≡ d * 16 + length t → new ≡ s ++ v ∷ [] → new ≡ b ++ way_bytes d t
+pub small_way : (b t s new : List ℕ) (d v : ℕ) → d < 8 → length t < 15 → s ≡ b ++ t
+    → v ≡ d * 16 + length t → new ≡ s ++ v ∷ [] → new ≡ b ++ way_bytes d t false
 unfolding way_bytes
 small_way b t s new d v small short e f g =
-    rw (lt-ltb d 15 small, lt-ltb (length t) 16 short, g, e, f)
+    let h : 0 + (d * 16 + length t) ≡ d * 16 + length t = omega arith in
+    rw (lt-ltb d 8 small, lt-ltb (length t) 15 short, h, g, e, f)
     (append_assoc b t ((d * 16 + length t) ∷ []))
 
-large_test : (d n : ℕ) → ((15 ≤ d) ⊎ (16 ≤ n)) → (ltb d 15 && ltb n 16) ≡ false
-large_test d n (inl h) = rw (le-ltb d 15 h) refl
-large_test d n (inr h) = and_right (ltb d 15) (ltb n 16) (le-ltb n 16 h)
+large_test : (d n : ℕ) → ((8 ≤ d) ⊎ (15 ≤ n)) → (ltb d 8 && ltb n 15) ≡ false
+large_test d n (inl h) = rw (le-ltb d 8 h) refl
+large_test d n (inr h) = and_right (ltb d 8) (ltb n 15) (le-ltb n 15 h)
 
-pub large_way : (b t s u v new : List ℕ) (d : ℕ) → ((15 ≤ d) ⊎ (16 ≤ length t)) → s ≡ b ++ t
-    → u ≡ s ++ to_le_bytes w64 d → v ≡ u ++ to_le_bytes w64 (length t) → new ≡ v ++ 255 ∷ []
-    → new ≡ b ++ way_bytes d t
+pub large_way : (b t s u v new : List ℕ) (d : ℕ) → ((8 ≤ d) ⊎ (15 ≤ length t)) → s ≡ b ++ t
+    → u ≡ s ++ to_le_bytes w64 d → v ≡ u ++ to_le_bytes w64 (length t) → new ≡ v ++ 15 ∷ []
+    → new ≡ b ++ way_bytes d t false
 unfolding way_bytes
 large_way b t s u v new d test e f g h =
     rw (
@@ -202,5 +244,5 @@ large_way b t s u v new d test e f g h =
       e,
       append_assoc b t (to_le_bytes w64 d),
       append_assoc b (t ++ to_le_bytes w64 d) (to_le_bytes w64 (length t)),
-      append_assoc b (t ++ to_le_bytes w64 d ++ to_le_bytes w64 (length t)) (255 ∷ []),
+      append_assoc b (t ++ to_le_bytes w64 d ++ to_le_bytes w64 (length t)) (15 ∷ []),
     ) refl

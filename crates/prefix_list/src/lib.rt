@@ -10,6 +10,7 @@
 //!   appended ([`Prefixes::push`], [`Prefixes::push_after`]), all of another list are
 //!   ([`Prefixes::append`]), and the last are removed ([`Prefixes::pop`], [`Prefixes::truncate`],
 //!   [`Prefixes::clear`]). Where memory runs out, it is as before.
+//! - All prefixes that come after a schedule are removed in place ([`Prefixes::remove_later`]).
 //! - [`Prefixes::position`] finds a prefix that the list has, and answers `None` for others.
 //! - [`Rev`] reads the prefixes in reverse order.
 //! - [`shared_len`] counts the steps that two prefixes have in common at their start.
@@ -22,5 +23,5 @@ mod bytes;
 mod prefixes;
 mod seeker;
 
-pub use crate::bytes::shared_len;
+pub use crate::bytes::{is_later, shared_len};
 pub use crate::prefixes::{Prefixes, Rev};

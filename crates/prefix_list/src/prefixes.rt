@@ -1,11 +1,11 @@
 //! The packed list, and a reader of it in reverse order.
 
-ghost use Rattle.std.specs.Prelude.{◌≡◌, ℕ, ◌-◌, ◌^◌, ◌<◌, ◌≤◌, ◌==◌, ◌↔◌, List, [], ◌∷◌, ◌++◌, length, take, drop, is_ok, IfOk, OnOk, IfSome, IfNone, IsTrue, All, Some, if◌then◌else◌, option_copied, slice_get, vec_capacity};
+ghost use Rattle.std.specs.Prelude.{◌≡◌, ℕ, ◌-◌, ◌^◌, ◌<◌, ◌≤◌, ◌==◌, ◌↔◌, List, [], ◌∷◌, ◌++◌, length, filter, count_by, not, take, drop, is_ok, IfOk, OnOk, IfSome, IfNone, IsTrue, All, Some, if◌then◌else◌, option_copied, slice_get, vec_capacity};
 ghost use Rattle.prefix_list.specs.inner.Packed.{AreWaysOn, WentBack};
-ghost use Rattle.prefix_list.specs.PrefixLists.{last_of};
+ghost use Rattle.prefix_list.specs.PrefixLists.{last_of, is_later};
 
 use crate::bytes::{
-    can_put_short_delta, last_delta, put_bytes, put_delta, put_reserved, put_short_delta,
+    can_put_short_delta, is_later, last_delta, put_bytes, put_delta, put_reserved, put_short_delta,
     restore_previous, shared_len,
 };
 use crate::seeker::Seeker;
@@ -21,26 +21,29 @@ const MORE_BYTES: usize = 96;
 
 /// A list of prefixes. Contracts see `List (List ℕ)`. `bytes` are the first prefix, which ends at
 /// `front`, and the deltas of all but the last prefix. `last` is the last prefix, and has room for
-/// each of the others.
+/// each of the others. Of the `count` prefixes that can be made `removed` ones don't belong to the
+/// list: the delta that makes one says so.
 #[derive(Drop)]
 pub struct Prefixes {
     count: usize,
+    removed: usize,
     bytes: Vec<u8>,
     front: usize,
     last: Vec<u8>,
 }
 
 impl Model for Prefixes {
-    ghost use Rattle.std.specs.Prelude.{List, ℕ, ◌≤◌, length, take, drop, vec_capacity};
-    ghost use Rattle.prefix_list.specs.inner.Packed.{listed, IsPacked};
+    ghost use Rattle.std.specs.Prelude.{List, ℕ, ◌≤◌, false, length, take, drop, vec_capacity};
+    ghost use Rattle.prefix_list.specs.inner.Packed.{listed, IsPacked, IsCounted};
 
     ghost Value = { List (List ℕ) };
 
-    ghost view = { λ p. listed p.count (drop p.front p.bytes.items) p.last.items };
+    ghost view = { λ p. listed p.count (drop p.front p.bytes.items) p.last.items false };
 
     ghost invariant = { λ p. (p.front ≤ length p.bytes.items)
         × IsPacked p.count (drop p.front p.bytes.items) p.last.items
-        (take p.front p.bytes.items) (vec_capacity p.last) };
+        (take p.front p.bytes.items) (vec_capacity p.last)
+        × IsCounted p.count p.removed (drop p.front p.bytes.items) p.last.items };
 }
 
 impl Prefixes {
@@ -50,6 +53,7 @@ impl Prefixes {
     {
         Prefixes {
             count: 0,
+            removed: 0,
             bytes: Vec::new(alloc),
             front: 0,
             last: Vec::new(alloc),
@@ -61,14 +65,14 @@ impl Prefixes {
         ensures length { result ≡ length self.now }
         ensures few { result ≤ 2 ^ 63 }
     {
-        self.count
+        self.count - self.removed
     }
 
     /// Whether there is no prefix.
     pub fn is_empty(&self) -> bool
         ensures { result ≡ (length self.now == 0) }
     {
-        self.count == 0
+        self.len() == 0
     }
 
     /// The last prefix; `None` where there is none.
@@ -89,18 +93,19 @@ impl Prefixes {
             (k < length self.now) × (slice_get self.now k ≡ Some prefix.now)) }
         ensures none { IfNone result (All (λ p. p ≡ prefix.now → ⊥) self.now) }
     {
-        let mut seeker = Seeker {
-            bytes: &self.bytes[self.front..],
-            steps: self.last.len(),
-            shared: shared_len(self.last.as_slice(), prefix),
-        };
-        let mut place = self.count;
-        while 0 < place {
-            place -= 1;
-            if seeker.has_found(prefix) {
-                return Some(place);
+        let deltas = &self.bytes[self.front..];
+        let mut seeker = Seeker::at_last(deltas.len(), self.last.as_slice(), prefix);
+        let mut place = self.len();
+        let mut left = self.count;
+        while 0 < left {
+            if !seeker.removed {
+                place -= 1;
+                if seeker.has_found(prefix) {
+                    return Some(place);
+                }
             }
-            seeker = seeker.at_previous(prefix);
+            left -= 1;
+            seeker = seeker.at_previous(deltas, prefix);
         }
         None
     }
@@ -111,11 +116,56 @@ impl Prefixes {
         requires { 0 < length self.old }
         ensures { self.new ≡ take (length self.old - 1) self.old }
     {
-        let deltas = &self.bytes[self.front..];
-        let top = last_delta(deltas);
-        let _ = restore_previous(deltas, top, &mut self.last);
-        self.bytes.truncate(self.front + top.start);
-        self.count -= 1;
+        loop {
+            let deltas = &self.bytes[self.front..];
+            let top = last_delta(deltas);
+            let _ = restore_previous(deltas, top, &mut self.last);
+            self.bytes.truncate(self.front + top.start);
+            self.count -= 1;
+            if !top.removed {
+                return;
+            }
+            self.removed -= 1;
+        }
+    }
+
+    // Removes the prefixes before the last one that differ from a schedule and are greater at the
+    // first such place. It takes no memory.
+    fn mark_later(&mut self, schedule: &[u8])
+        requires { 0 < length self.old }
+        ensures { self.new ≡ filter (λ p. not (is_later schedule.now p))
+            (take (length self.old - 1) self.old) ++ last_of self.old ∷ [] }
+    {
+        let deltas = self.bytes.len() - self.front;
+        let mut seeker = Seeker::at_last(deltas, self.last.as_slice(), schedule);
+        let mut left = self.count - 1;
+        while 0 < left {
+            let end = self.front + seeker.end;
+            seeker = seeker.at_previous(&self.bytes[self.front..], schedule);
+            if !seeker.removed && seeker.is_later(schedule) {
+                self.bytes[end - 1] += 128;
+                self.removed += 1;
+            }
+            left -= 1;
+        }
+    }
+
+    /// Removes the prefixes that differ from a schedule and are greater at the first such place,
+    /// and answers how many. It takes no memory: the bytes of a removed prefix stay, and the delta
+    /// that makes it says so, until an earlier prefix is the last one.
+    pub fn remove_later(&mut self, schedule: &[u8]) -> usize
+        ensures list { self.new ≡ filter (λ p. not (is_later schedule.now p)) self.old }
+        ensures number { result ≡ count_by (is_later schedule.now) self.old }
+    {
+        let before = self.len();
+        if before == 0 {
+            return 0;
+        }
+        self.mark_later(schedule);
+        if is_later(schedule, self.last.as_slice()) {
+            self.pop();
+        }
+        before - self.len()
     }
 
     /// Keeps the first prefixes, at most `length`, and removes the others. It takes no memory.
@@ -132,6 +182,7 @@ impl Prefixes {
         ensures { self.new ≡ [] }
     {
         self.count = 0;
+        self.removed = 0;
     }
 
     /// Appends a prefix. Fails where memory runs out; the list is then as before.
@@ -196,6 +247,7 @@ impl Prefixes {
         self.last.clear();
         let _ = self.last.extend_from_slice(prefix);
         self.count = 1;
+        self.removed = 0;
         Ok(())
     }
 
@@ -224,12 +276,14 @@ impl Prefixes {
         self.last.clear();
         let _ = self.last.extend_from_slice(other.last.as_slice());
         self.count += other.count;
+        self.removed += other.removed;
         Ok(())
     }
 
     /// Moves the last prefixes, at most `count` of them, into another list, in place of those it
-    /// has. The memory that both lists have is used again. Fails where memory runs out; this list
-    /// is then as before, and the other one is empty.
+    /// has. The memory that both lists have is used again. Fails where memory runs out, and
+    /// where [`Prefixes::remove_later`] removed prefixes whose bytes are still there; this list is
+    /// then as before, and the other one is empty.
     pub fn split_last(&mut self, count: usize, other: &mut Prefixes) -> Result<(), AllocError>
         ensures kept { self.new ≡ (if is_ok result
             then take (length self.old - count) self.old else self.old) }
@@ -260,8 +314,12 @@ impl Prefixes {
             then drop (length self.old - count) self.old else []) }
     {
         other.count = 0;
+        other.removed = 0;
         other.front = 0;
         other.last.clear();
+        if self.removed > 0 {
+            return Err(AllocError);
+        }
         other.last.reserve(self.last.capacity())?;
         let _ = other.last.extend_from_slice(self.last.as_slice());
         let deltas = &self.bytes[self.front..];
@@ -285,6 +343,7 @@ impl Prefixes {
         ensures { self.new ≡ (if is_ok result then other.now else []) }
     {
         self.count = 0;
+        self.removed = 0;
         self.front = 0;
         self.bytes.clear();
         self.bytes.extend_from_slice(other.bytes.as_slice())?;
@@ -293,6 +352,7 @@ impl Prefixes {
         let _ = self.last.extend_from_slice(other.last.as_slice());
         self.front = other.front;
         self.count = other.count;
+        self.removed = other.removed;
         Ok(())
     }
 
@@ -302,6 +362,7 @@ impl Prefixes {
         ensures { IsTrue result → self.now ≡ other.now }
     {
         self.count == other.count
+            && self.removed == other.removed
             && self.front == other.front
             && is_equal(self.last.as_slice(), other.last.as_slice())
             && is_equal(self.bytes.as_slice(), other.bytes.as_slice())
@@ -315,6 +376,7 @@ impl Prefixes {
         let last = copy_with_room(alloc, self.last.as_slice(), self.last.capacity())?;
         Ok(Prefixes {
             count: self.count,
+            removed: self.removed,
             bytes,
             front: self.front,
             last,
@@ -393,25 +455,18 @@ pub struct Rev<'a> {
 }
 
 impl<'a> Model for Rev<'a> {
-    ghost use Rattle.std.specs.Prelude.{List, ℕ, vec_capacity};
+    ghost use Rattle.std.specs.Prelude.{List, ℕ, false, vec_capacity};
     ghost use Rattle.prefix_list.specs.inner.Packed.{listed, IsPacked};
 
     ghost Value = { List (List ℕ) };
 
-    ghost view = { λ p. listed p.count p.bytes.now p.last.items };
+    ghost view = { λ p. listed p.count p.bytes.now p.last.items false };
 
     ghost invariant = { λ p. IsPacked p.count p.bytes.now p.last.items p.first.now
         (vec_capacity p.last) };
 }
 
 impl<'a> Rev<'a> {
-    /// How many prefixes are still to be read.
-    pub fn len(&self) -> usize
-        ensures { result ≡ length self.now }
-    {
-        self.count
-    }
-
     /// The current prefix: the last of those that are still to be read. `None` where all are read.
     pub fn prefix(&self) -> Option<&[u8]>
         ensures { option_copied result ≡ slice_get self.now (length self.now - 1) }
@@ -429,9 +484,14 @@ impl<'a> Rev<'a> {
         requires { 0 < length self.old }
         ensures { self.new ≡ take (length self.old - 1) self.old }
     {
-        let top = last_delta(self.bytes);
-        let _ = restore_previous(self.bytes, top, &mut self.last);
-        self.bytes = &self.bytes[..top.start];
-        self.count -= 1;
+        loop {
+            let top = last_delta(self.bytes);
+            let _ = restore_previous(self.bytes, top, &mut self.last);
+            self.bytes = &self.bytes[..top.start];
+            self.count -= 1;
+            if !top.removed {
+                return;
+            }
+        }
     }
 }

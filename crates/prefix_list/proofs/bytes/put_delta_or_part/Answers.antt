@@ -4,8 +4,8 @@ use Rattle.prefix_list.proofs.bytes.put_delta_or_part.Goals as goal
 
 pub returns-in_ok-push-clause-done : goal.returns-in_ok-push-clause-done
 returns-in_ok-push-clause-done c = small_way c.args.bytes.now.items c.args.tail.now
-    c.put_bytes.new.bytes.items _ c.args.dropped _ c.if-dropped-lt15.true
-    c.if-steps-lt16.true c.in_ok-put_bytes.ensures.items refl c.in_ok-push.ensures.items
+    c.put_bytes.new.bytes.items _ c.args.dropped _ c.if-dropped-lt8.true
+    c.if-steps-lt15.true c.in_ok-put_bytes.ensures.items refl c.in_ok-push.ensures.items
 
 pub returns-in_ok-push-2-clause-done : goal.returns-in_ok-push-2-clause-done
 returns-in_ok-push-2-clause-done c =
@@ -14,8 +14,8 @@ returns-in_ok-push-2-clause-done c =
     let g = c.in_ok-extend_from_slice-3.ensures.items in
     let h = c.in_ok-push-2.ensures.items in
     large_way c.args.bytes.now.items c.args.tail.now c.extend_from_slice.new.self.items
-    c.extend_from_slice-else-dropped-lt15.new.self.items
-    c.extend_from_slice-else-dropped-lt15-2.new.self.items
-    c.push-else-dropped-lt15.new.self.items c.args.dropped
-    (⊎_elim (λ p. inr p.1) (λ q. inl q) c.else-dropped-lt15.either)
-    e (rw (← c.to_le_bytes.ensures) f) (rw (← c.to_le_bytes-else-dropped-lt15.ensures) g) h
+    c.extend_from_slice-else-dropped-lt8.new.self.items
+    c.extend_from_slice-else-dropped-lt8-2.new.self.items
+    c.push-else-dropped-lt8.new.self.items c.args.dropped
+    (⊎_elim (λ p. inr p.1) (λ q. inl q) c.else-dropped-lt8.either)
+    e (rw (← c.to_le_bytes.ensures) f) (rw (← c.to_le_bytes-else-dropped-lt8.ensures) g) h

@@ -1,21 +1,18 @@
 use Rattle.std.proofs.Common.{refl, ◌≡◌, ◌∙◌, ◌++◌, ◌≤◌, sym, ap, subst, arith, length}
-use Rattle.std.proofs.Common.{None, ◌&&◌}
+use Rattle.std.proofs.Common.{◌&&◌}
 use Rattle.std.specs.List.{All}
 use Rattle.std.proofs.lemmas.List.Elements.{All-weaker}
 use Rattle.items.specs.Items.{IsItem}
 use Rattle.items.specs.Walks.{items_at, listed_if}
 use Rattle.items.proofs.Listed.{listed_items}
 use Rattle.items.proofs.ListParts.{all_right}
-use Rattle.summary.specs.Summaries.{SummaryView}
-use Rattle.summary.proofs.SumsJoin.{join_first_bad}
 use Rattle.book.specs.ItemLists.{all_of}
 use Rattle.book.specs.Books.{BookView, Keeps, IsSwept, taken_in, remove_each, AreWithin}
 use Rattle.book.proofs.BookFields.{book_of}
 use Rattle.book.proofs.Lists.{within_more}
 use Rattle.book.proofs.Swept.{taken_swept}
-use Rattle.book.proofs.TakenOver.{grown, still_there, open_taken, taken_back, same_book, packs_none}
-use Rattle.book.proofs.TakenOver.{unpacked_after, none_there}
-use Rattle.book.proofs.OpenItems.{open_run, deferred_run, waiting_run, run_of, same_of, more_of}
+use Rattle.book.proofs.TakenOver.{grown, still_there, open_taken, taken_back, same_book}
+use Rattle.book.proofs.OpenItems.{open_run, waiting_run, run_of, same_of, more_of}
 use Rattle.book.proofs.books.Book.settle_at.Goals as goal
 use Rattle.book.proofs.books.Book.settle_at.Goals.{After-drop-none-inside-in-Err-2, After-drop-none-inside-3}
 
@@ -24,12 +21,6 @@ unpack_from-requires c =
     let b = book_of c.self.inside in
     run_of c.self.inside.open_items.packed c.shared_program-program.ensures
     (open_run b c.self.inside.open_items refl c.self.invariant.0)
-
-pub unpack_from-requires-2 : goal.unpack_from-requires-2
-unpack_from-requires-2 c =
-    let b = book_of c.self.inside in
-    run_of c.self.inside.deferred.packed c.shared_program-program.ensures
-    (deferred_run b c.self.inside.deferred refl c.self.invariant.0)
 
 pub append_prefixes-requires : goal.append_prefixes-requires
 append_prefixes-requires c =
@@ -53,19 +44,13 @@ invariant_of-self-in_err-reserve c =
     let own = c.shared_program-program.ensures in
     let opened = same_of c.unpack_from.new.self c.self.inside.open_items own
     c.unpack_from.ensures.same in
-    let waiting = same_of c.unpack_from-2.new.self c.self.inside.deferred own
-    c.unpack_from-2.ensures.same in
     let same = same_book b b.finished (all_of p c.reserve.new.self)
-    (all_of p c.unpack_from-2.new.self) refl
+    (all_of p c.self.inside.deferred) refl
     (still_there p c.unpack_from.new.self c.reserve.new.self b.open_items opened
     c.reserve.ensures.packed c.reserve.ensures.unpacked)
-    waiting in (
+    refl in (
       subst Keeps (sym same) c.self.invariant.0,
       subst (IsSwept c.self.inside.swept) (sym same) c.self.invariant.1,
-      λ q bad. (
-        c.reserve.ensures.packed ∙ c.unpack_from.ensures.none (c.self.invariant.2 q bad).0,
-        c.unpack_from-2.ensures.none (c.self.invariant.2 q bad).1,
-      ),
     )
 
 -- and where what was deferred was refused
@@ -76,24 +61,15 @@ invariant_of-self-in_err-append_prefixes c =
     let own = c.shared_program-program.ensures in
     let opened = same_of c.unpack_from.new.self c.self.inside.open_items own
     c.unpack_from.ensures.same in
-    let waiting = same_of c.unpack_from-2.new.self c.self.inside.deferred own
-    c.unpack_from-2.ensures.same in
-    let as_before = same_of c.append_prefixes.new.self c.unpack_from-2.new.self own
+    let as_before = same_of c.append_prefixes.new.self c.self.inside.deferred own
     c.in_err-append_prefixes.ensures.all in
     let same = same_book b b.finished (all_of p c.reserve.new.self)
     (all_of p c.append_prefixes.new.self) refl
     (still_there p c.unpack_from.new.self c.reserve.new.self b.open_items opened
     c.reserve.ensures.packed c.reserve.ensures.unpacked)
-    (as_before ∙ waiting) in (
+    as_before in (
       subst Keeps (sym same) c.self.invariant.0,
       subst (IsSwept c.self.inside.swept) (sym same) c.self.invariant.1,
-      λ q bad. (
-        c.reserve.ensures.packed ∙ c.unpack_from.ensures.none (c.self.invariant.2 q bad).0,
-        c.append_prefixes.ensures.packed (packs_none c.may_pack-packs.result c.self.inside.quick
-            c.self.inside.finished.first_bad c.args.found.now.part.first_bad
-            c.may_pack-packs.ensures q bad)
-            ∙ c.unpack_from-2.ensures.none (c.self.invariant.2 q bad).1,
-      ),
     )
 
 -- and where the sum was refused
@@ -108,9 +84,7 @@ not_joined c =
     let own = c.shared_program-program.ensures in
     let opened = same_of c.unpack_from.new.self c.self.inside.open_items own
     c.unpack_from.ensures.same in
-    let waiting = same_of c.unpack_from-2.new.self c.self.inside.deferred own
-    c.unpack_from-2.ensures.same in
-    let more = more_of c.append_prefixes.new.self c.unpack_from-2.new.self
+    let more = more_of c.append_prefixes.new.self c.self.inside.deferred
     c.listed_prefixes-listed.result.now own c.in_ok-append_prefixes.ensures.all in
     same_book b c.join_in.new.self (all_of p c.reserve.new.self) (all_of p c.truncate.new.self)
     c.in-Err.ensures.joined
@@ -119,22 +93,13 @@ not_joined c =
     (taken_back b.deferred (items_at p c.listed_prefixes-listed.result.now)
     (all_of p c.append_prefixes.new.self) (all_of p c.truncate.new.self)
     c.len-deferred_len.result
-    (more ∙ ap (λ is. is ++ items_at p c.listed_prefixes-listed.result.now) waiting)
+    more
     (c.len-deferred_len.ensures p) (c.truncate.ensures.items p))
 
 pub invariant_of-self-in-Err : goal.invariant_of-self-in-Err
 invariant_of-self-in-Err c = (
   subst Keeps (sym (not_joined c)) c.self.invariant.0,
   subst (IsSwept c.self.inside.swept) (sym (not_joined c)) c.self.invariant.1,
-  λ q k. let bad : c.self.inside.finished.first_bad ≡ None → ⊥ =
-      λ e. k (ap (λ (z : SummaryView). z.first_bad) c.in-Err.ensures.joined ∙ e) in (
-        c.reserve.ensures.packed ∙ c.unpack_from.ensures.none (c.self.invariant.2 q bad).0,
-        c.truncate.ensures.none
-            (c.append_prefixes.ensures.packed (packs_none c.may_pack-packs.result
-            c.self.inside.quick c.self.inside.finished.first_bad
-            c.args.found.now.part.first_bad c.may_pack-packs.ensures q bad)
-            ∙ c.unpack_from-2.ensures.none (c.self.invariant.2 q bad).1),
-      ),
 )
 
 pub returns-in-Err-clause-book : goal.returns-in-Err-clause-book
@@ -152,10 +117,9 @@ append-requires c =
 pub remove_each-requires-clause-unpacked : goal.remove_each-requires-clause-unpacked
 remove_each-requires-clause-unpacked c =
     let n = c.in_ok-unpack_from.ensures.unpacked in
-    let m = c.unpack_start.ensures.place in
     let same = ap length (c.append.ensures.packed ∙ c.reserve.ensures.packed) in
     All-weaker (λ k. c.args.first ≤ k) (λ k. length c.append.new.self.packed ≤ k)
-    (λ k l. omega (arith, n, m, same, l)) c.args.places.now c.requires.first
+    (λ k l. omega (arith, n, same, l)) c.args.places.now c.requires.first
 
 pub remove_each-requires-clause-within : goal.remove_each-requires-clause-within
 remove_each-requires-clause-within c =
@@ -194,9 +158,7 @@ settled c =
     let own = c.shared_program-program.ensures in
     let opened = same_of c.unpack_from.new.self c.self.inside.open_items own
     c.unpack_from.ensures.same in
-    let waiting = same_of c.unpack_from-2.new.self c.self.inside.deferred own
-    c.unpack_from-2.ensures.same in
-    let more = more_of c.append_prefixes.new.self c.unpack_from-2.new.self
+    let more = more_of c.append_prefixes.new.self c.self.inside.deferred
     c.listed_prefixes-listed.result.now own c.in_ok-append_prefixes.ensures.all in
     let items = open_taken p c.reserve.new.self c.append.new.self c.remove_each.new.self
     b.open_items found.rest.items places
@@ -206,7 +168,7 @@ settled c =
     λ k. record b {
       finished = c.in_default.ensures.joined k;
       open_items = items k;
-      deferred = (more ∙ (λ j. waiting j ++ (ap (items_at p) c.listed_prefixes-listed.ensures
+      deferred = (more ∙ (λ j. b.deferred ++ (ap (items_at p) c.listed_prefixes-listed.ensures
           ∙ listed_items p b.lists found.deferred) j)) k;
     }
 
@@ -220,19 +182,6 @@ invariant_of-self-2 c =
       subst (IsSwept (c.self.inside.swept && c.adds_nothing_to_drop-quiet.result)) (sym (settled c))
           (taken_swept c.self.inside.swept c.adds_nothing_to_drop-quiet.result b c.args.places.now found
           c.self.invariant.1 c.adds_nothing_to_drop-quiet.ensures),
-      unpacked_after c.may_pack-packs.result c.self.inside.quick c.self.inside.finished.first_bad
-          found.part.first_bad c.join_in.new.self.first_bad c.remove_each.new.self.packed
-          c.append_prefixes.new.self.packed c.may_pack-packs.ensures
-          (λ n. (
-            c.remove_each.ensures.packed ∙ (c.append.ensures.packed ∙ (c.reserve.ensures.packed
-                ∙ none_there c.unpack_from.new.self.packed c.unpack_start.result
-                c.in_ok-unpack_from.ensures.unpacked (c.unpack_start.ensures.none n))),
-            c.append_prefixes.ensures.packed n
-                ∙ none_there c.unpack_from-2.new.self.packed c.unpack_start-2.result
-                c.in_ok-unpack_from-2.ensures.unpacked (c.unpack_start-2.ensures.none n),
-          ))
-          (ap (λ (z : SummaryView). z.first_bad) c.in_default.ensures.joined
-          ∙ join_first_bad b.finished found.part),
     )
 
 pub returns-clause-book : goal.returns-clause-book

@@ -3,7 +3,7 @@ use Rattle.std.proofs.lemmas.List.Elements.{All-weaker, All-take, All-replicate}
 use Rattle.items.specs.Items.{ItemView}
 use Rattle.book.specs.Books.{BookView, Keeps, AreWithin, HasWalkedRound, taken_in, remove_each}
 use Rattle.book.proofs.BookFields.{book_of}
-use Rattle.book.proofs.OpenItems.{same_of}
+use Rattle.book.proofs.OpenItems.{same_of, open_run, run_of}
 use Rattle.book.proofs.TakenOver.{on_settled}
 use Rattle.book.proofs.Rounds.{IsFoundFrom, open_at, at_end, added_tried, round_begins, round_goes_on, round_settles}
 use Rattle.book.proofs.books.Book.walk_round.Goals as goal
@@ -115,3 +115,9 @@ returns-clause-ok c =
     (HasWalkedRound c.args.self.now c.args.quota c.settle_at.new.self) c.settle_at.ensures.book
     (λ is. subst (HasWalkedRound c.args.self.now c.args.quota)
     (ap (taken d) (sym (moved d)) ∙ sym is) (walked d).2)
+
+pub unpack_from-requires : goal.unpack_from-requires
+unpack_from-requires c =
+    let b = book_of c.self.inside in
+    run_of c.self.inside.open_items.packed c.shared_program.ensures
+    (open_run b c.self.inside.open_items refl c.self.invariant.0)

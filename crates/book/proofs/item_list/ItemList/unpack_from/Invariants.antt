@@ -1,4 +1,4 @@
-use Rattle.std.proofs.Common.{◌≡◌, [], length}
+use Rattle.std.proofs.Common.{◌≡◌, length}
 use Rattle.std.specs.Arc.{arc_value}
 use Rattle.std.specs.List.{All}
 use Rattle.items.specs.Items.{IsItem}
@@ -10,7 +10,6 @@ abbrev pub invariant-loop-alloc : goal.invariant-loop-alloc
 invariant-loop-alloc l = record {
   same : all_of (arc_value l.program) l.self ≡ all_of (arc_value l.program) l.fn.self;
   run : All IsItem (items_at (arc_value l.program) l.self.packed);
-  none : l.fn.self.packed ≡ [] → l.self.packed ≡ [];
 }
 
 abbrev pub decreases-loop-alloc : goal.decreases-loop-alloc

@@ -1,4 +1,4 @@
-use Rattle.std.proofs.Common.{rules, refl, arith, false, ◌≡◌, ◌++◌, ◌∷◌, [], sym, subst, map, List, IsPermutation}
+use Rattle.std.proofs.Common.{rules, refl, arith, ◌≡◌, ◌++◌, ◌∷◌, [], sym, subst, map, List, IsPermutation}
 use Rattle.std.specs.Arc.{arc_value}
 use Rattle.std.specs.List.{All}
 use Rattle.std.proofs.lemmas.List.Sorted.{All-permutation}
@@ -10,8 +10,6 @@ use Rattle.book.specs.Books.{Keeps}
 use Rattle.book.specs.Lending.{LendingView, as_book, all_lent}
 use Rattle.book.proofs.LendingFields.{lending_of}
 use Rattle.book.proofs.Lent.{lists_back, all_back, open_runs, keeps_permuted}
-use Rattle.book.proofs.OpenItems.{deferred_run, run_of, same_of}
-use Rattle.book.proofs.TakenOver.{packs_none, none_there}
 use Rattle.book.proofs.lending.LendingBook.into_book.Goals as goal
 
 pub append_list-requires : goal.append_list-requires
@@ -42,24 +40,6 @@ loop-list-preserved c =
     (sym c.in_ok-append_list.ensures.all)
     (lists_back p all c.loop-list.lent.items left l c.loop-list.free popped c.loop-list.invariant)
 
-pub unpack_from-requires : goal.unpack_from-requires
-unpack_from-requires c =
-    let p = arc_value c.shared_program-program.result.now in
-    let free : ListView = c.loop-list.free in
-    let all : List ItemView = (as_book c.args.self).open_items in
-    let run : All IsItem all =
-    open_runs c.args.self
-    (subst (λ (z : LendingView). Keeps (as_book z)) c.self.view_is c.self.invariant) in
-    all_left IsItem (items_at p free.packed) free.unpacked
-    (All-permutation IsItem all (all_of p free)
-    (all_back p all c.loop-list.lent.items free
-    (omega (arith, c.loop-list.lent.ok.0, c.in_default.ensures.cases.0)) c.loop-list.invariant) run)
-
-pub unpack_from-requires-2 : goal.unpack_from-requires-2
-unpack_from-requires-2 c =
-    run_of c.self.inside.deferred.packed c.shared_program-program.ensures
-    (deferred_run (as_book (lending_of c.self.inside)) c.self.inside.deferred refl c.self.invariant)
-
 pub invariant_of-result : goal.invariant_of-result
 invariant_of-result c =
     let i = c.self.inside in
@@ -76,20 +56,6 @@ invariant_of-result c =
     (all_lent (map (all_of (arc_value c.shared_program-program.result.now))
     c.loop-list.lent.items) ++ all_of (arc_value c.shared_program-program.result.now) free))
     (sym c.self.view_is) c.loop-list.invariant)) in (
-      subst Keeps (λ k. record b {
-        open_items = sym (same_of c.unpack_from.new.self free c.shared_program-program.ensures
-            c.unpack_from.ensures.same) k;
-        deferred = sym (same_of c.unpack_from-2.new.self i.deferred
-            c.shared_program-program.ensures c.unpack_from-2.ensures.same) k;
-      }) (keeps_permuted b (all_of p free) refl moved c.self.invariant),
+      keeps_permuted b (all_of p free) refl moved c.self.invariant,
       tt,
-      λ q bad. let packs : c.may_pack-packs.result ≡ false =
-          packs_none c.may_pack-packs.result i.quick i.finished.first_bad i.finished.first_bad
-          c.may_pack-packs.ensures q bad in (
-            none_there c.unpack_from.new.self.packed c.unpack_start-first.result
-                c.in_ok-unpack_from.ensures.unpacked (c.unpack_start-first.ensures.none packs),
-            none_there c.unpack_from-2.new.self.packed c.unpack_start-first-2.result
-                c.in_ok-unpack_from-2.ensures.unpacked
-                (c.unpack_start-first-2.ensures.none packs),
-          ),
     )

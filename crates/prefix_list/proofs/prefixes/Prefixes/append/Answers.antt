@@ -1,9 +1,9 @@
 use Rattle.std.proofs.lemmas.List.{take_at, append-nil, take_rest}
 use Rattle.prefix_list.proofs.WayBytes.{length-way}
-use Rattle.std.proofs.Common.{◌≡◌, ◌+◌, ◌-◌, ◌^◌, ◌<◌, ◌≤◌, ◌++◌, length, take, drop, vec_len, vec_capacity, refl, sym, ◌∙◌, ap, arith, append_assoc, length-append, length-take}
+use Rattle.std.proofs.Common.{◌≡◌, ◌+◌, ◌-◌, ◌^◌, ◌<◌, ◌≤◌, false, ◌++◌, length, take, drop, vec_len, vec_capacity, refl, sym, ◌∙◌, ap, arith, append_assoc, length-append, length-take}
 use Rattle.prefix_list.specs.inner.Packed.{way_bytes, listed}
-use Rattle.prefix_list.proofs.PackedPrefixes.{if_ok, packed_few, listed_none, stack_short, appended, Holds, grown_after}
-use Rattle.prefix_list.proofs.ListFields.{counted_few, stack_of, with_room, cut_short}
+use Rattle.prefix_list.proofs.PackedPrefixes.{if_ok, packed_few, listed_none, stack_short, appended, Holds, held_count, grown_after}
+use Rattle.prefix_list.proofs.ListFields.{list_of, counted_few, stack_of, with_room, cut_short}
 use Rattle.prefix_list.proofs.prefixes.Prefixes.append.Goals as goal
 
 pub returns-then-other-eq0 : goal.returns-then-other-eq0
@@ -11,7 +11,7 @@ returns-then-other-eq0 c =
     let i = c.other.inside in
     rw (
       ← c.other.view_is,
-      listed_none i.count (drop i.front i.bytes.items) i.last.items c.if-other-eq0.true,
+      listed_none i.count (drop i.front i.bytes.items) i.last.items false c.if-other-eq0.true,
     )
     (sym (append-nil c.args.self.now))
 
@@ -22,15 +22,15 @@ returns-then-self-eq0 c =
     ∙ c.in_ok-copy.ensures
     ∙ ap (λ ps. ps ++ c.args.other.now)
     (sym (sym c.self.view_is
-    ∙ listed_none i.count (drop i.front i.bytes.items) i.last.items c.if-self-eq0.true))
+    ∙ listed_none i.count (drop i.front i.bytes.items) i.last.items false c.if-self-eq0.true))
 
-grown_at : (c : goal.After-self-1) → Holds (c.self.inside.count + c.other.inside.count)
+grown_at : (c : goal.After-self-2-1) → Holds (c.self.inside.count + c.other.inside.count)
     c.self.inside.front c.extend_from_slice.new.self.items c.extend_from_slice-2.new.self.items
     (vec_capacity c.extend_from_slice-2.new.self)
     (listed c.self.inside.count (drop c.self.inside.front c.self.inside.bytes.items)
-    c.self.inside.last.items
+    c.self.inside.last.items false
     ++ listed c.other.inside.count (drop c.other.inside.front c.other.inside.bytes.items)
-    c.other.inside.last.items)
+    c.other.inside.last.items false)
 grown_at c =
     let i = c.self.inside in
     let j = c.other.inside in
@@ -56,9 +56,9 @@ grown_at c =
     let tail : t ≡ drop k last = take_rest c.deref-2.result.now k ∙ ap (drop k) whole in
     let count : j.front ≡ length start =
     omega (arith, length-take j.front j.bytes.items, c.other.invariant.0) in
-    let way = way_bytes (length start - k) t in
+    let way = way_bytes (length start - k) t false in
     let wrote : c.put_delta.new.bytes.items ≡ i.bytes.items ++ way =
-    c.in_ok-put_delta.ensures ∙ ap (λ n. i.bytes.items ++ way_bytes (n - k) t) count in
+    c.in_ok-put_delta.ensures ∙ ap (λ n. i.bytes.items ++ way_bytes (n - k) t false) count in
     let D = c.deref-3.result.now in
     let read : take (length D - j.front) (drop j.front D) ≡ ways =
     take_rest D j.front ∙ ap (drop j.front) c.deref-3.ensures.value in
@@ -116,7 +116,7 @@ overflow_add-self c =
     let m = packed_few j.count (drop j.front j.bytes.items) j.last.items
     (take j.front j.bytes.items) (vec_capacity j.last) c.other.invariant.1 in
     let t = take (length c.deref-2.result.now - k) (drop k c.deref-2.result.now) in
-    let wrote : c.put_delta.new.bytes.items ≡ i.bytes.items ++ way_bytes (j.front - k) t =
+    let wrote : c.put_delta.new.bytes.items ≡ i.bytes.items ++ way_bytes (j.front - k) t false =
     c.in_ok-put_delta.ensures in
     let D = c.deref-3.result.now in
     let more = take (length D - j.front) (drop j.front D) in
@@ -131,15 +131,24 @@ overflow_add-self c =
       ap length wrote,
       ap length joined,
       ap length read,
-      length-append i.bytes.items (way_bytes (j.front - k) t),
+      length-append i.bytes.items (way_bytes (j.front - k) t false),
       length-append c.put_delta.new.bytes.items more,
-      length-way (j.front - k) t,
+      length-way (j.front - k) t false,
       c.extend_from_slice.new.self.ok.0,
       c.extend_from_slice.new.self.small,
     )
 
 pub invariant_of-self-2 : goal.invariant_of-self-2
-invariant_of-self-2 c = ((grown_at c).within, (grown_at c).packed)
+invariant_of-self-2 c = (
+  (grown_at c).within,
+  (grown_at c).packed,
+  held_count _ _ _ _ _ _ _ (grown_at c) (omega (
+    arith,
+    c.self.invariant.2,
+    c.other.invariant.2,
+    length-append (list_of c.self.inside) (list_of c.other.inside),
+  )),
+)
 
 pub returns : goal.returns
 returns c = (grown_at c).view ∙ (rw (← c.self.view_is, ← c.other.view_is) refl)
@@ -160,3 +169,36 @@ invariant_of-self-in-Err c =
     (omega (arith, c.len-len.ensures, i.bytes.ok.0))) in
     with_room i _ _ _ c.self.invariant (omega (arith, c.reserve.ensures.capacity)) cut
     c.reserve.ensures.items
+
+pub overflow_add-self-2 : goal.overflow_add-self-2
+overflow_add-self-2 c =
+    let i = c.self.inside in
+    let j = c.other.inside in
+    let k = c.shared_len-shared.result in
+    let n = counted_few i c.self.invariant in
+    let m = packed_few j.count (drop j.front j.bytes.items) j.last.items
+    (take j.front j.bytes.items) (vec_capacity j.last) c.other.invariant.1 in
+    let t = take (length c.deref-2.result.now - k) (drop k c.deref-2.result.now) in
+    let wrote : c.put_delta.new.bytes.items ≡ i.bytes.items ++ way_bytes (j.front - k) t false =
+    c.in_ok-put_delta.ensures in
+    let D = c.deref-3.result.now in
+    let more = take (length D - j.front) (drop j.front D) in
+    let read : more ≡ drop j.front j.bytes.items =
+    take_rest D j.front ∙ ap (drop j.front) c.deref-3.ensures.value in
+    let joined : c.extend_from_slice.new.self.items ≡ c.put_delta.new.bytes.items ++ more =
+    c.in_default.ensures.items in
+    omega (
+      arith,
+      c.self.invariant.2,
+      c.other.invariant.2,
+      n,
+      m,
+      ap length wrote,
+      ap length joined,
+      ap length read,
+      length-append i.bytes.items (way_bytes (j.front - k) t false),
+      length-append c.put_delta.new.bytes.items more,
+      length-way (j.front - k) t false,
+      c.extend_from_slice.new.self.ok.0,
+      c.extend_from_slice.new.self.small,
+    )

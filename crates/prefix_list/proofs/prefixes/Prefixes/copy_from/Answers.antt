@@ -1,11 +1,15 @@
-use Rattle.std.proofs.Common.{rules, ◌≡◌, ◌+◌, ◌≤◌, refl, ap, ◌∙◌, arith, length, inl, vec_len, vec_capacity}
+use Rattle.std.proofs.Common.{rules, ◌≡◌, ◌+◌, ◌≤◌, refl, ap, ◌∙◌, arith, length, drop, false, inl, vec_len, vec_capacity}
 use Rattle.prefix_list.specs.inner.Packed.{listed}
-use Rattle.prefix_list.proofs.PackedPrefixes.{if_ok}
+use Rattle.prefix_list.proofs.PackedPrefixes.{if_ok, listed_none}
 use Rattle.prefix_list.proofs.ListFields.{with_room}
 use Rattle.prefix_list.proofs.prefixes.Prefixes.copy_from.Goals as goal
 
 pub invariant_of-self : goal.invariant_of-self
-invariant_of-self c = (omega arith, inl refl)
+invariant_of-self c = (
+  omega arith,
+  inl refl,
+  omega (arith, ap length (listed_none 0 c.extend_from_slice.new.self.items c.self.inside.last.items false refl)),
+)
 
 pub invariant_of-self-2 : goal.invariant_of-self-2
 invariant_of-self-2 c =
@@ -46,3 +50,13 @@ returns-in_err-extend_from_slice c = search rules
 pub returns-in_err-reserve : goal.returns-in_err-reserve
 unfolding listed
 returns-in_err-reserve c = search rules
+
+pub invariant_of-self-in_err-reserve : goal.invariant_of-self-in_err-reserve
+invariant_of-self-in_err-reserve c = (
+  omega arith,
+  inl refl,
+  omega (
+    arith,
+    ap length (listed_none 0 c.extend_from_slice.new.self.items c.reserve.new.self.items false refl),
+  ),
+)

@@ -1,4 +1,4 @@
-use Rattle.std.proofs.Common.{drop, refl, arith}
+use Rattle.std.proofs.Common.{drop, false, refl, arith}
 use Rattle.prefix_list.proofs.PackedPrefixes.{listed_none, listed_last}
 use Rattle.prefix_list.proofs.prefixes.Prefixes.last.Goals as goal
 
@@ -7,7 +7,7 @@ returns-then-self-eq0 c =
     let i = c.self.inside in
     rw (
       ← c.self.view_is,
-      listed_none i.count (drop i.front i.bytes.items) i.last.items c.if-self-eq0.true,
+      listed_none i.count (drop i.front i.bytes.items) i.last.items false c.if-self-eq0.true,
     ) refl
 
 pub returns-else-self-eq0 : goal.returns-else-self-eq0

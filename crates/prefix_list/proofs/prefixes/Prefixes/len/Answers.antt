@@ -1,10 +1,10 @@
-use Rattle.std.proofs.Common.{arith, sym}
-use Rattle.prefix_list.proofs.PackedPrefixes.{length-listed}
-use Rattle.prefix_list.proofs.ListFields.{counted_few}
+use Rattle.std.proofs.Common.{arith}
+use Rattle.prefix_list.proofs.ListFields.{counted_few, count_in}
 use Rattle.prefix_list.proofs.prefixes.Prefixes.len.Goals as goal
 
 pub returns-clause-length : goal.returns-clause-length
-returns-clause-length c = rw (← c.self.view_is) (sym (length-listed _ _ _))
+returns-clause-length c =
+    omega (arith, count_in c.self.inside c.args.self.now c.self.invariant c.self.view_is)
 
 pub returns-clause-few : goal.returns-clause-few
 returns-clause-few c =

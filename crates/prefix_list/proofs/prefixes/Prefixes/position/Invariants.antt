@@ -1,9 +1,10 @@
+use Rattle.std.proofs.Common.{◌≡◌, ◌≤◌, drop, take, length}
 use Rattle.prefix_list.proofs.PackedPrefixes.{Seeks}
 use Rattle.prefix_list.proofs.prefixes.Prefixes.position.Given as goal
 
-abbrev pub invariant-loop-place : goal.invariant-loop-place
-invariant-loop-place l = Seeks l.self l.prefix l.place l.seeker.bytes.now l.seeker.steps
-    l.seeker.shared
+abbrev pub invariant-loop-left : goal.invariant-loop-left
+invariant-loop-left l = (l.seeker.end ≤ length l.deltas) × Seeks l.self l.prefix l.left l.place (take l.seeker.end l.deltas)
+    l.seeker.steps l.seeker.shared l.seeker.removed
 
-abbrev pub decreases-loop-place : goal.decreases-loop-place
-decreases-loop-place l = l.place
+abbrev pub decreases-loop-left : goal.decreases-loop-left
+decreases-loop-left l = l.left

@@ -2,7 +2,7 @@ use Rattle.std.proofs.lemmas.List.{take_rest}
 use Rattle.std.proofs.Common.{◌+◌, [], ◌∷◌, ◌++◌, take, drop, ◌∙◌, ap, arith, vec_capacity}
 use Rattle.prefix_list.specs.PrefixLists.{last_of}
 use Rattle.prefix_list.proofs.PackedPrefixes.{Holds}
-use Rattle.prefix_list.proofs.ListFields.{more_counted, one_more}
+use Rattle.prefix_list.proofs.ListFields.{more_counted, one_more, held_one_more}
 use Rattle.prefix_list.proofs.prefixes.Prefixes.push_after.Goals as goal
 
 pub overflow_add-self : goal.overflow_add-self
@@ -25,7 +25,8 @@ grown c =
     (omega (arith, top.ok.0, top.ok.1))
 
 pub invariant_of-self : goal.invariant_of-self
-invariant_of-self c = ((grown c).within, (grown c).packed)
+invariant_of-self c =
+    held_one_more c.self.inside c.args.self.now _ _ _ _ c.self.invariant c.self.view_is (grown c)
 
 pub returns-then-can_put_short_delta : goal.returns-then-can_put_short_delta
 returns-then-can_put_short_delta c = (grown c).view

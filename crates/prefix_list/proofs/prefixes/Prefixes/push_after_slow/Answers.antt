@@ -2,7 +2,7 @@ use Rattle.std.proofs.lemmas.List.{take_rest}
 use Rattle.std.proofs.Common.{◌≡◌, ◌+◌, ◌≤◌, [], ◌∷◌, ◌++◌, length, take, drop, min, vec_len, vec_capacity, ◌∙◌, ap, arith}
 use Rattle.prefix_list.specs.PrefixLists.{last_of}
 use Rattle.prefix_list.proofs.PackedPrefixes.{went_well, Holds, after_none, take_within}
-use Rattle.prefix_list.proofs.ListFields.{none_in, last_in, more_counted, with_room, one_more}
+use Rattle.prefix_list.proofs.ListFields.{none_in, last_in, more_counted, with_room, one_more, held_one_more}
 use Rattle.prefix_list.proofs.prefixes.Prefixes.push_after_slow.Goals as goal
 
 pub push_first-requires : goal.push_first-requires
@@ -60,7 +60,8 @@ grown c =
     )) (omega (arith, top.ok.0, top.ok.1))
 
 pub invariant_of-self-2 : goal.invariant_of-self-2
-invariant_of-self-2 c = ((grown c).within, (grown c).packed)
+invariant_of-self-2 c =
+    held_one_more c.self.inside c.args.self.now _ _ _ _ c.self.invariant c.self.view_is (grown c)
 
 pub invariant_of-self-in_err-put_delta : goal.invariant_of-self-in_err-put_delta
 invariant_of-self-in_err-put_delta c =

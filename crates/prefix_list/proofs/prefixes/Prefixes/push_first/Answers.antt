@@ -1,9 +1,9 @@
 use Rattle.std.proofs.Common.{◌≡◌, ◌∷◌, [], length, ◌∙◌, refl, arith, vec_capacity, ap}
-use Rattle.prefix_list.proofs.PackedPrefixes.{if_ok, Holds, started_with}
+use Rattle.prefix_list.proofs.PackedPrefixes.{if_ok, Holds, held_count, started_with}
 use Rattle.prefix_list.proofs.ListFields.{with_room}
 use Rattle.prefix_list.proofs.prefixes.Prefixes.push_first.Goals as goal
 
-started : (c : goal.After-self-2-1) → Holds 1 (length c.args.prefix.now)
+started : (c : goal.After-self-3-1) → Holds 1 (length c.args.prefix.now)
     c.extend_from_slice.new.self.items c.extend_from_slice-2.new.self.items
     (vec_capacity c.extend_from_slice-2.new.self) (c.args.prefix.now ∷ [])
 started c =
@@ -32,7 +32,11 @@ started c =
     omega (arith, ap length last, top.ok.0, top.ok.1))
 
 pub invariant_of-self-2 : goal.invariant_of-self-2
-invariant_of-self-2 c = ((started c).within, (started c).packed)
+invariant_of-self-2 c = (
+  (started c).within,
+  (started c).packed,
+  held_count 1 0 _ _ _ _ _ (started c) refl,
+)
 
 pub returns : goal.returns
 returns c = (started c).view

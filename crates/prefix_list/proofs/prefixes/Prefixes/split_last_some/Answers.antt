@@ -1,9 +1,9 @@
-use Rattle.std.proofs.Common.{rules, ◌≡◌, ℕ, ◌+◌, ◌-◌, ◌<◌, ◌≤◌, List, ◌++◌, length, take, drop, refl, ◌∙◌, ap, subst, arith, length-take, length-drop, vec_len, vec_capacity}
+use Rattle.std.proofs.Common.{rules, ◌≡◌, ℕ, ◌+◌, ◌-◌, ◌<◌, ◌≤◌, false, List, ◌++◌, length, take, drop, refl, ◌∙◌, ap, subst, arith, length-take, length-drop, inl, vec_len, vec_capacity}
 use Rattle.std.proofs.lemmas.List.{take_rest}
 use Rattle.prefix_list.specs.inner.Packed.{IsStack, AreWaysOn, listed}
-use Rattle.prefix_list.proofs.PackedPrefixes.{if_ok, length-listed, Holds, held_more}
-use Rattle.prefix_list.proofs.ListFields.{stack_of, with_room}
-use Rattle.prefix_list.proofs.GoingBack.{SplitAt, split_at, one_left, kept, moved}
+use Rattle.prefix_list.proofs.PackedPrefixes.{if_ok, length_listed, listed_none, Holds, held_more, held_count}
+use Rattle.prefix_list.proofs.ListFields.{stack_of, with_room, count_in}
+use Rattle.prefix_list.proofs.GoingBack.{SplitAt, split_at, AllStay, all_stay, one_left, kept, moved}
 use Rattle.prefix_list.proofs.prefixes.Prefixes.split_last_some.Goals as goal
 use Rattle.prefix_list.proofs.prefixes.Prefixes.split_last_some.Goals.{After-deref}
 
@@ -11,12 +11,7 @@ use Rattle.prefix_list.proofs.prefixes.Prefixes.split_last_some.Goals.{After-der
 fewer : (c : After-deref) → c.args.count < c.self.inside.count
 fewer c =
     let i = c.self.inside in
-    omega (
-      arith,
-      c.requires.few,
-      length-listed i.count (drop i.front i.bytes.items) i.last.items,
-      ap length c.self.view_is,
-    )
+    omega (arith, c.requires.few, count_in i c.args.self.now c.self.invariant c.self.view_is)
 
 -- the ways of the list
 abbrev ways_of : After-deref → List ℕ
@@ -138,6 +133,20 @@ split c =
     (split_at (ways_of d) _ _ _ _ c.self.inside.count c.args.count _ _ _ _ (stack d)
     c.requires.some (fewer d) b (c.go_back-end.ensures.back left))
 
+stay : (c : goal.After-self-1) → AllStay c.self.inside.count c.args.count
+    (listed (c.self.inside.count - c.args.count)
+    (take c.go_back-end.result (drop c.self.inside.front c.self.inside.bytes.items))
+    c.go_back-end.new.last.items false)
+    (listed c.args.count
+    (drop c.go_back-at.result (drop c.self.inside.front c.self.inside.bytes.items))
+    c.self.inside.last.items false)
+    (listed c.self.inside.count (drop c.self.inside.front c.self.inside.bytes.items)
+    c.self.inside.last.items false)
+stay c =
+    let d = (goal.at.returns-clause-kept c).After-deref in
+    all_stay _ _ _ _ _ c.self.inside.count c.args.count _ _ _ _ (split c) c.requires.some (fewer d)
+    (omega (arith, c.self.invariant.2, c.if-self-gt0.false))
+
 lower : (c : goal.After-self-1) → Holds (c.self.inside.count - c.args.count) c.self.inside.front
     c.truncate.new.self.items c.go_back-end.new.last.items (vec_capacity c.go_back-end.new.last)
     (take (length c.args.self.now - c.args.count) c.args.self.now)
@@ -145,7 +154,7 @@ lower c =
     let i = c.self.inside in
     rw (← c.self.view_is) (held_more _ _ _ _ _ _ _ c.go_back-end.ensures.room
     (kept i.count i.front i.bytes.items i.last.items _ _ c.args.count _ _ _ _
-    c.truncate.new.self.items c.self.invariant.0 (split c) c.truncate.ensures.items))
+    c.truncate.new.self.items c.self.invariant.0 (split c) (stay c) c.truncate.ensures.items))
 
 upper : (c : goal.After-self-1) → Holds c.args.count c.len-other-inside.result
     c.set_bytes.new.bytes.items c.extend_from_slice.new.self.items
@@ -163,7 +172,7 @@ upper c =
     let long : c.len-other-inside.result ≡ length c.go_back-at.new.last.items =
     omega (arith, c.len-other-inside.ensures, c.go_back-at.new.last.ok.0) in
     rw (← c.self.view_is, long) (moved i.count _ _ _ _ _ _ c.args.count _ _ _ _
-    c.set_bytes.new.bytes.items c.extend_from_slice.new.self.items (split c) wrote (saved d)
+    c.set_bytes.new.bytes.items c.extend_from_slice.new.self.items (split c) (stay c) wrote (saved d)
     (omega (
       arith,
       c.in_ok-reserve.ensures.ok,
@@ -174,10 +183,35 @@ upper c =
     )))
 
 pub invariant_of-self-2 : goal.invariant_of-self-2
-invariant_of-self-2 c = ((lower c).within, (lower c).packed)
+invariant_of-self-2 c = (
+  (lower c).within,
+  (lower c).packed,
+  omega (
+    arith,
+    (stay c).kept,
+    ap length (lower c).view,
+    ap length c.self.view_is,
+    c.if-self-gt0.false,
+    length-take (length c.args.self.now - c.args.count) c.args.self.now,
+    c.self.invariant.2,
+    c.requires.few,
+  ),
+)
 
 pub invariant_of-other-2 : goal.invariant_of-other-2
-invariant_of-other-2 c = ((upper c).within, (upper c).packed)
+invariant_of-other-2 c = (
+  (upper c).within,
+  (upper c).packed,
+  omega (
+    arith,
+    ap length (upper c).view,
+    ap length c.self.view_is,
+    c.if-self-gt0.false,
+    length-drop (length c.args.self.now - c.args.count) c.args.self.now,
+    c.self.invariant.2,
+    c.requires.few,
+  ),
+)
 
 pub returns-clause-kept : goal.returns-clause-kept
 returns-clause-kept c = (lower c).view
@@ -217,3 +251,32 @@ returns-in_err-reserve-clause-moved c = search rules
 pub returns-in-Err-clause-moved : goal.returns-in-Err-clause-moved
 unfolding listed
 returns-in-Err-clause-moved c = refl
+
+pub invariant_of-other : goal.invariant_of-other
+invariant_of-other c = (
+  omega arith,
+  inl refl,
+  omega (arith, ap length (listed_none 0 c.other.inside.bytes.items c.clear.new.self.items false refl)),
+)
+
+pub returns-then-self-gt0-clause-moved : goal.returns-then-self-gt0-clause-moved
+unfolding listed
+returns-then-self-gt0-clause-moved c = refl
+
+pub invariant_of-other-in_err-reserve : goal.invariant_of-other-in_err-reserve
+invariant_of-other-in_err-reserve c = (
+  omega arith,
+  inl refl,
+  omega (arith, ap length (listed_none 0 c.other.inside.bytes.items c.reserve.new.self.items false refl)),
+)
+
+pub invariant_of-other-in-Err : goal.invariant_of-other-in-Err
+invariant_of-other-in-Err c = (
+  omega arith,
+  inl refl,
+  omega (
+    arith,
+    ap length (listed_none 0 c.set_bytes.new.bytes.items c.extend_from_slice.new.self.items false
+        refl),
+  ),
+)

@@ -1,11 +1,11 @@
-use Rattle.std.proofs.Common.{refl, arith}
+use Rattle.std.proofs.Common.{false, refl, arith}
 use Rattle.prefix_list.proofs.PackedPrefixes.{listed_none, listed_last}
 use Rattle.prefix_list.proofs.prefixes.Rev.prefix.Goals as goal
 
 pub returns-then-self-eq0 : goal.returns-then-self-eq0
 returns-then-self-eq0 c = rw (
   ← c.self.view_is,
-  listed_none c.self.inside.count c.self.inside.bytes.now c.self.inside.last.items
+  listed_none c.self.inside.count c.self.inside.bytes.now c.self.inside.last.items false
       c.if-self-eq0.true,
 ) refl
 

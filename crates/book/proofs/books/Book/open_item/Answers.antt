@@ -1,0 +1,10 @@
+use Rattle.std.proofs.Common.{refl}
+use Rattle.book.proofs.BookFields.{book_of}
+use Rattle.book.proofs.OpenItems.{open_run, run_of}
+use Rattle.book.proofs.books.Book.open_item.Goals as goal
+
+pub item-requires-clause-run : goal.item-requires-clause-run
+item-requires-clause-run c =
+    let b = book_of c.self.inside in
+    run_of c.self.inside.open_items.packed c.shared_program.ensures
+    (open_run b c.self.inside.open_items refl c.self.invariant.0)
