@@ -943,7 +943,7 @@ class Sentences:
             read = {self.events[k].get("reads") for k in causes if at < k < len(self.events)} - {None}
             passed = next((k for k, name in enumerate(self.run.written(test), test["place"] + 1) if name in read), None)
             came = "came here" if end in led else "came to %s," % self.site(goal) if goal else \
-                "passed by %s," % self.site_at(test["thread"], passed)
+                "passed by %s," % self.site_at(test["thread"], passed) if passed else "came to %s," % self.site(self.events[led[0]])
             line = self.line_in(test)
             lines.append("    %s%s since `%s` in %s%s was %s" % (
                 "" if end in led else thread + " ", came, test["statement"].spelled(), line, "," * ("turn" in line),
@@ -1062,6 +1062,8 @@ SHAPES = [
     ("sem a = 1; sem b = 1; thread A { acquire a; acquire b; release b; release a; } "
      "thread B { acquire b; acquire a; release a; release b; }", "0,1"),
     ("sem a = 0; var x; thread A { load r x; if r { release a; } else { store x 2; } } thread B { acquire a; }", "0x2"),
+    # A test that led to another one alone, by which a write was passed by.
+    ("var x; var y; thread A { load a y; if a == 0 { if a { store x 1; } } } thread B { load r x; assert r == 1; }", "0,1"),
     # A mutex whose owner ended, having passed its unlock by; and one whose owner stopped before it.
     ("mutex m; var x; thread A { lock m; load r x; if r { unlock m; } } thread B { lock m; unlock m; }", "0x2"),
     ("mutex m; thread A { lock m; assert 0; unlock m; } thread B { lock m; unlock m; }", "0"),

@@ -53,8 +53,8 @@ impl TextWriter<'_> {
         test: &Event,
         end: usize,
     ) -> Result<(), AllocError> {
-        let (outcome, test) = (self.outcome_text(at, test, end)?, self.test_text(test)?);
-        let words = format!(in self.alloc; "{outcome}{test}")?;
+        let mut words = self.outcome_text(at, test, end)?;
+        words.push_str(self.test_text(test)?.as_str())?;
         page.put_indented(words.as_str(), TEST_INDENT, INDENT)
     }
 
@@ -67,26 +67,27 @@ impl TextWriter<'_> {
     }
 
     // As text, what a test led to: the event at place `end`, else the next of the cause, no test,
-    // that it decides, else the write that it passed by and that an event of the cause reads.
+    // that it decides, else the write that it passed by and that is read, else the next test.
     fn outcome_text(&self, at: usize, test: &Event, end: usize) -> Result<String, AllocError> {
-        let name = self.thread_name(test.thread);
-        let last = self.event(end);
+        let (name, last) = (self.thread_name(test.thread), self.event(end));
         if last.is_some_and(|last| self.decides(test, &last)) {
             return "came here".to_string(self.alloc);
         }
         let all = self.causes.events().iter().copied().enumerate();
         let led = all
             .skip(at.saturating_add(1))
-            .filter(|(place, event)| self.is_event_in_cause(*place) && !is_test(event))
-            .find(|(_, event)| self.decides(test, event));
-        if let Some((_, event)) = led {
-            return format!(in self.alloc; "{name} came to {},", self.event_site(&event));
-        }
+            .filter(|(place, event)| self.is_event_in_cause(*place) && self.decides(test, event))
+            .min_by_key(|(_, event)| is_test(event));
         let first = test.instruction.saturating_add(1);
         let mut passed = first..first.saturating_add(test.jump_length());
         let passed = passed.find(|place| self.is_write_read_after(at, test.thread, *place));
-        let site = self.site(test.thread, passed.unwrap_or(first));
-        format!(in self.alloc; "{name} passed by {site},")
+        if let Some((_, event)) = led
+            && (passed.is_none() || !is_test(&event))
+        {
+            return format!(in self.alloc; "{name} came to {},", self.event_site(&event));
+        }
+        let passed = self.site(test.thread, passed.unwrap_or(first));
+        format!(in self.alloc; "{name} passed by {passed},")
     }
 
     // Whether the instruction writes a variable that an event of the cause reads after place `at`.

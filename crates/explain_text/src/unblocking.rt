@@ -22,9 +22,8 @@ const VALUE_LAYOUT: ValueLayout = ValueLayout {
 };
 
 impl TextWriter<'_> {
-    /// Writes, once for each object that threads wait for, what those would do if they were woken,
-    /// who could end the waits, and what came of the statements that could; of a mutex only where
-    /// its owner ended.
+    /// Writes for each object that threads wait for, a mutex only if its owner ended, what they would
+    /// do if they were woken, who could end the waits, and what came of the statements that could.
     pub fn put_unblocking(&self, page: &mut Page) -> Result<(), AllocError> {
         let waits = self.waits.all();
         for (at, wait) in waits.iter().enumerate() {
