@@ -286,7 +286,8 @@ pub fn no_schedule_text(alloc: Global, file: &str, report: &Report) -> Result<St
         ) => {
             let ending = if *bound == 1 { "" } else { "s" };
             format!(in alloc;
-                "{file}: no schedule with at most {bound} preemption{ending} is bad; the search of others was cut short, and none that it tried is bad ({tried} tried).\n"
+                "{file}: no schedule with at most {bound} preemption{ending} is bad; the search of \
+                 others was cut short, and none that it tried is bad ({tried} tried).\n"
             )
         }
         (Verdict::Incomplete { .. }, _) => format!(in alloc;
