@@ -54,16 +54,17 @@ impl TextWriter<'_> {
 
     // Writes the rows of a circle, and that its threads wait for one another.
     fn put_circle(&self, page: &mut Page, circle: Mask, widths: Widths) -> Result<(), AllocError> {
-        let mut names = String::new(self.alloc);
-        let mut size: usize = 0;
+        let (mut names, mut size) = (String::new(self.alloc), 0_usize);
         let waits = self.waits.all().iter();
         for wait in waits.filter(|wait| circle.has(wait.thread)) {
             self.put_wait_row(page, wait, widths)?;
             push_entry(&mut names, self.thread_name(wait.thread))?;
             size = size.saturating_add(1);
         }
-        let verb = if size == 1 { "waits for itself" } else { "wait for one another" };
-        let words = format!(in self.alloc; "  {names} {verb}")?;
+        let words = match size {
+            1 => format!(in self.alloc; "  {names} waits for itself")?,
+            _ => format!(in self.alloc; "  {names} wait for one another")?,
+        };
         page.put_line(words.as_str(), INDENT)
     }
 
