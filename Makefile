@@ -30,7 +30,7 @@ define HELP
                     three quarters of an hour or more at first, and 3 GB on disk
   make test       the gate: each proof, each wrong body, each test, the commands that the documents
                   show, and refused memory; proofs that it made on this machine before are kept
-                    from nothing some 85 minutes on four processors; up to 12 GB, and up to 10 GB on disk
+                    from nothing some 55 minutes on four processors; up to 12 GB, and up to 10 GB on disk
   make times      prints the seconds of each crate's last check beside those of tests/budget.txt
   make shown      runs the documents' commands by build/ctxbound, and all else that is tried of it by
                   scripts: a few minutes
