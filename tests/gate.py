@@ -120,6 +120,8 @@ def main():
     shutil.copyfile(ROOT / "crates/ctxbound/out/ctxbound", ROOT / PROGRAM)
     (ROOT / PROGRAM).chmod(0o755)
     print(gate.part("shown commands", [sys.executable, "tests/docs.py", PROGRAM]), flush=True)
+    # What people run who prove nothing: by one build, which costs the least.
+    print(gate.part("shown commands, nothing proved", ["env", "BUILDS=1", "make", "quick-shown"]), flush=True)
     for name, words in TRIED.items():
         closing = gate.part(name, words)
         if closing:
