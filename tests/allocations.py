@@ -177,7 +177,7 @@ def entries_of(text):
 
 
 def is_out_of_memory(entry):
-    return entry == ["refused", "-", "-", "-", "-", "memory"] or \
+    return entry == ["refused", "-", "-", "-", "memory"] or \
         entry == {"expect": None, "status": 4, "note": "memory", "fault": "memory"}
 
 

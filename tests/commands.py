@@ -70,6 +70,8 @@ FILES = {
     "crowd.guest": CROWD,
     "expects_none.guest": "# expect: bad 0\n" + CROWD,
     "expects_two.guest": "# expect: bad 2\n" + CROWD,
+    "expects_clean.guest": "# expect: clean\n" + EIGHTS,
+    "at_once.guest": "# expect: bad 0\nthread A { assert 0; }\n",
     "crossed.guest": CROSSED,
     "waits.guest": WAITS,
     "three.guest": THREE,
@@ -100,50 +102,61 @@ APART_REPORT = ('"all":true,"bound":null,"ends":[{"kind":"done","vars":[1,1]}],"
                 '"tried":1,"verdict":"clean"}\n')
 
 # The columns of a suite's table, and their widths after the first, which is as wide as the longest name.
-HEADS = ("file", "verdict", "bound", "preemptions", "schedule", "tried", "note")
-WIDTHS = (10, 5, 11, 12, 9)
-RACE_ROW = ("bad", "1", "1", "0,1,0", "3")
-APART_ROW = ("clean", "-", "-", "-", "1")
-NO_ROW = ("-", "-", "-", "-")
+HEADS = ("file", "verdict", "bound", "preemptions", "tried", "note", "schedule")
+WIDTHS = (10, 5, 11, 9, 19)
+RACE_ROW = ("bad", "1", "1", "3")
+RACE_TOLD = (*RACE_ROW, "", "0,1,0")
+APART_ROW = ("clean", "-", "-", "1")
+NO_ROW = ("-", "-", "-")
 UNCLEAR = "one `# expect:` is wanted, with bad, bad N, failed, stuck or clean"
 
 # The words, the table's rows, its last line, and the status. Nothing is written on standard error.
 SUITES = [
     (["as_expected.guest", "clean.guest"],
-     [("as_expected.guest", *RACE_ROW, "expected"), ("clean.guest", *APART_ROW)], "2 files: 2 as expected", 0),
-    (["race.guest"], [("race.guest", *RACE_ROW)], "1 file: 1 not as expected", 1),
+     [("as_expected.guest", *RACE_ROW, "expected", "0,1,0"), ("clean.guest", *APART_ROW, "expected")],
+     "2 files: 2 as expected", 0),
+    (["race.guest"], [("race.guest", *RACE_TOLD)], "1 file: 1 not as expected", 1),
     (["unexpected.guest", "not_bad.guest"],
-     [("unexpected.guest", *RACE_ROW, "clean was expected"), ("not_bad.guest", *APART_ROW, "bad was expected")],
+     [("unexpected.guest", *RACE_ROW, "clean was expected", "0,1,0"), ("not_bad.guest", *APART_ROW, "bad was expected")],
      "2 files: 2 not as expected", 1),
-    (["eights.guest", "--limit", "100", "--bound", "1"],
-     [("eights.guest", "clean", "1", "-", "-", "16", "no proof: schedules with more preemptions are left out")],
-     "1 file: 1 as expected", 0),
+    # the note of a row with a schedule may be wider than its column, which moves the schedule alone
+    (["crowd.guest", "expects_two.guest", "--limit", "1"],
+     [("crowd.guest", "bad", "-", "1", "2", "fewer preemptions may do", "0,1,0,2,3,4,5,6,7,8"),
+      ("expects_two.guest", "bad", "-", "1", "2", "bad 2 was expected; fewer preemptions may do", "0,1,0,2,3,4,5,6,7,8")],
+     "2 files: 2 not as expected", 1),
+    (["eights.guest", "expects_clean.guest", "--limit", "100", "--bound", "1"],
+     [("eights.guest", "clean", "1", "-", "16", "no proof: schedules with more preemptions are left out"),
+      ("expects_clean.guest", "clean", "1", "-", "16", "expected; no proof: schedules with more preemptions are left out")],
+     "2 files: 2 as expected", 0),
     # the limit is reached at bound 1, with 16 schedules tried, before bound 2
-    (["eights.guest", "--limit", "10"],
-     [("eights.guest", "incomplete", "1", "-", "-", "16", "cut short at the limit")], "1 file: 1 cut short", 3),
+    (["eights.guest", "expects_clean.guest", "--limit", "10"],
+     [("eights.guest", "incomplete", "1", "-", "16", "cut short at the limit"),
+      ("expects_clean.guest", "incomplete", "1", "-", "16", "cut short at the limit")], "2 files: 2 cut short", 3),
+    # of a thread without a step the assertion fails at the start: its schedule is empty
+    (["at_once.guest"], [("at_once.guest", "bad", "-", "0", "1", "expected", "-")], "1 file: 1 as expected", 0),
     (["refused.guest", "clean.guest"],
-     [("refused.guest", "refused", *NO_ROW, "syntax S3 Expected at 2:1"), ("clean.guest", *APART_ROW)],
+     [("refused.guest", "refused", *NO_ROW, "syntax S3 Expected at 2:1"), ("clean.guest", *APART_ROW, "expected")],
      "2 files: 1 as expected, 1 refused", 2),
     (["unclear.guest", "twice.guest"],
      [("unclear.guest", "refused", *NO_ROW, "line 1: " + UNCLEAR), ("twice.guest", "refused", *NO_ROW, "line 2: " + UNCLEAR)],
      "2 files: 2 refused", 2),
     (["gone.guest", "clean.guest"],
-     [("gone.guest", "unread", *NO_ROW, "No such file or directory (os error 2)"), ("clean.guest", *APART_ROW)],
+     [("gone.guest", "unread", *NO_ROW, "No such file or directory (os error 2)"), ("clean.guest", *APART_ROW, "expected")],
      "2 files: 1 as expected, 1 not read", 4),
-    (["folder"], [("folder/a.guest", *RACE_ROW), ("folder/b.guest", *APART_ROW)],
+    (["folder"], [("folder/a.guest", *RACE_TOLD), ("folder/b.guest", *APART_ROW)],
      "2 files: 1 as expected, 1 not as expected", 1),
-    (["tree"], [("tree/b.guest", *RACE_ROW), ("tree/deeper/a.guest", *APART_ROW),
+    (["tree"], [("tree/b.guest", *RACE_TOLD), ("tree/deeper/a.guest", *APART_ROW),
                 ("tree/named.guest/c.guest", *APART_ROW)], "3 files: 2 as expected, 1 not as expected", 1),
     (["empty"], [("empty", "unread", *NO_ROW, "no file in it ends in .guest")], "1 file: 1 not read", 4),
     (["tab\tname.guest"], [("tab\\x09name.guest", *APART_ROW)], "1 file: 1 as expected", 0),
     (["back\\slash.guest"], [("back\\x5cslash.guest", *APART_ROW)], "1 file: 1 as expected", 0),
-    (["crossed.guest"], [("crossed.guest", "bad", "1", "1", "0,1", "6")], "1 file: 1 not as expected", 1),
+    (["crossed.guest"], [("crossed.guest", "bad", "1", "1", "6", "", "0,1")], "1 file: 1 not as expected", 1),
     # 256 are tried of both; of PAIRS prefixes are left then, under which sleep sets leave no schedule
     (["between.guest", "pairs.guest", "--limit", "256"],
-     [("between.guest", "clean", "-", "-", "-", "256"), ("pairs.guest", "incomplete", "0", "-", "-", "256", "cut short at the limit")],
+     [("between.guest", "clean", "-", "-", "256"), ("pairs.guest", "incomplete", "0", "-", "256", "cut short at the limit")],
      "2 files: 1 as expected, 1 cut short", 3),
     (["between.guest", "pairs.guest", "--limit", "257"],
-     [("between.guest", "clean", "-", "-", "-", "256"), ("pairs.guest", "clean", "-", "-", "-", "256")],
+     [("between.guest", "clean", "-", "-", "256"), ("pairs.guest", "clean", "-", "-", "256")],
      "2 files: 2 as expected", 0),
 ]
 # What follows `# expect:` in RACE, which fails, or in CROSSED, which gets stuck, both with one preemption:
@@ -153,7 +166,7 @@ EXPECTATIONS = [
     ("bad 1", RACE, 0, "expected"), ("bad  1", RACE, 0, "expected"), ("bad 0", RACE, 1, "bad 0 was expected"),
     ("bad 2", RACE, 1, "bad 2 was expected"), ("clean", RACE, 1, "clean was expected"),
     ("stuck", CROSSED, 0, "expected"), ("failed", CROSSED, 1, "failed was expected"),
-    ("clean", APART, 0, ""), ("failed", APART, 1, "failed was expected"), ("bad 0", APART, 1, "bad 0 was expected"),
+    ("clean", APART, 0, "expected"), ("failed", APART, 1, "failed was expected"), ("bad 0", APART, 1, "bad 0 was expected"),
     *((words, RACE, 2, "line 1: " + UNCLEAR) for words in
       ("Bad", "bad # why", "bad -1", "bad 1 2", "bad one", "bad 4294967296", "good", "")),
 ]
@@ -465,7 +478,7 @@ def table(rows, sums):
         for cell, width in zip(row, widths):
             line = line.ljust(start) + cell
             start = max(start + width, len(line)) + 2
-        text += line + "\n"
+        text += line.rstrip() + "\n"
     return text + sums + "\n"
 
 
@@ -538,7 +551,8 @@ class Commands(Tester):
             self.answers(["suite"] + words, table(rows, sums), "", status)
         for words, files, status in (
                 (["as_expected.guest", "clean.guest"],
-                 [("as_expected.guest", "bad", 0, "expected", RACE_REPORT), ("clean.guest", "clean", 0, "", APART_REPORT)], 0),
+                 [("as_expected.guest", "bad", 0, "expected", RACE_REPORT),
+                  ("clean.guest", "clean", 0, "expected", APART_REPORT)], 0),
                 (["refused.guest", "gone.guest", "race.guest"],
                  [("refused.guest", None, 2, "syntax S3 Expected at 2:1", None),
                   ("gone.guest", None, 4, "No such file or directory (os error 2)", None),
@@ -574,7 +588,7 @@ class Commands(Tester):
             rest, status = started.stdout.read().decode().split("\n"), started.wait(self.seconds)
         pipe.unlink()
         self.compare(words, (lines, [line.split() for line in rest[:2]], status),
-                     ([list(HEADS), ["clean.guest", *APART_ROW]],
+                     ([list(HEADS), ["clean.guest", *APART_ROW, "expected"]],
                       [["pipe.guest", *APART_ROW], "2 files: 2 as expected".split()], 0))
 
     def verified(self):
@@ -610,7 +624,7 @@ class Commands(Tester):
                       *((words, UNKNOWN, "ctxbound: %s\n" % refusal)
                         for words in (["replay", "-", "0"], ["explore", "-"], ["explain", "-", "0"])))
             has = ((["suite", "-"], UNKNOWN, refusal + " (%s)" % place * is_marked + "\n"),
-                   (["suite", "-"], LOADS + "# Expect: bad\n", after + " looks like `# expect:` and isn't\n"),
+                   (["suite", "-"], LOADS + "# Expect: bad\n", after + " looks like `# expect:` and isn't  0\n"),
                    (["suite", "-"], LOADS + "# expect: good\n", after + ": one `# expect:` is wanted"),
                    (["verify", "-"], WAITS, "But W12 RanOut at %s: " % (place if is_marked else "%d:3" % (line + 1))))
             for words, text, wanted in begins + has:

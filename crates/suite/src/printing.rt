@@ -16,8 +16,8 @@ use verify::Found;
 // The cell of a table where there is nothing to say.
 const NOTHING: &str = "-";
 
-/// The columns of a table whose rows are printed one by one. A cell that is wider than its column
-/// moves those after it.
+/// The columns of a table whose rows are printed one by one. The schedule, of any length, is last:
+/// no other column is moved by it.
 #[derive(Clone, Copy, Debug)]
 pub struct Table {
     alloc: Global,
@@ -44,13 +44,13 @@ impl Table {
     /// The first line of the table, which has the heads of the columns. Fails where memory runs
     /// out.
     pub fn head(&self) -> Result<Vec<u8>, AllocError> {
-        let heads = ["verdict", "bound", "preemptions", "schedule", "tried"];
-        self.line("file", heads, "note")
+        let heads = ["verdict", "bound", "preemptions", "tried"];
+        self.line("file", heads, "note", "schedule")
     }
 
     /// The line of a file, in ASCII: its verdict, the bound of the search, the preemptions of the
-    /// bad schedule and that schedule, how many schedules were tried, and a note where the verdict
-    /// isn't all that there is to say. Where the note names a line of the file, and a
+    /// bad schedule, how many schedules were tried, a note where the verdict isn't all that there
+    /// is to say, and the bad schedule. Where the note names a line of the file, and a
     /// preprocessor's `marks` say where that line came from, it names that place. Fails where
     /// memory runs out.
     pub fn row(&self, entry: &Entry, marks: &Marks) -> Result<Vec<u8>, AllocError> {
@@ -62,11 +62,11 @@ impl Table {
             Outcome::Unread(_) => "unread",
             Outcome::Refused(_) | Outcome::Unclear(_) => "refused",
         };
-        self.line(file, [verdict, NOTHING, NOTHING, NOTHING, NOTHING], note)
+        self.line(file, [verdict, NOTHING, NOTHING, NOTHING], note, "")
     }
 
     // The line of a file that was searched, with this note: the file, the cells of the search that
-    // is reported, and the note.
+    // is reported, the note, and the bad schedule.
     fn searched_row(
         &self,
         file: &str,
@@ -79,7 +79,7 @@ impl Table {
         let preemptions = number_cell(alloc, bad.as_ref().map(|bad| bad.preemptions))?;
         let schedule = match bad {
             Some(bad) => schedule_text(alloc, bad.steps.as_slice())?,
-            None => Vec::from_slice(alloc, NOTHING.as_bytes())?,
+            None => Vec::new(alloc),
         };
         let schedule = str::from_utf8(schedule.as_slice()).unwrap_or("");
         let tried = report.summary.tried().to_string(alloc)?;
@@ -87,20 +87,25 @@ impl Table {
             verdict_word(&searched.found),
             bound.as_str(),
             preemptions.as_str(),
-            schedule,
             tried.as_str(),
         ];
-        self.line(file, cells, note)
+        self.line(file, cells, note, schedule)
     }
 
     // A line of the table, with its line feed: a cell for each column, as wide as the column, or
-    // wider, which moves those after it. `cells` are those between the file and the note, which may
-    // be empty; the line doesn't end in a blank.
-    fn line(&self, file: &str, cells: [&str; 5], note: &str) -> Result<Vec<u8>, AllocError> {
+    // wider, which moves those after it. `cells` are those between the file and the note. The note
+    // and the schedule may be empty; the line doesn't end in a blank.
+    fn line(
+        &self,
+        file: &str,
+        cells: [&str; 4],
+        note: &str,
+        schedule: &str,
+    ) -> Result<Vec<u8>, AllocError> {
         let file_width = self.file_width;
-        let [verdict, bound, preemptions, schedule, tried] = cells;
+        let [verdict, bound, preemptions, tried] = cells;
         let line = format!(in self.alloc;
-            "{file:<file_width$}  {verdict:<10}  {bound:<5}  {preemptions:<11}  {schedule:<12}  {tried:<9}  {note}"
+            "{file:<file_width$}  {verdict:<10}  {bound:<5}  {preemptions:<11}  {tried:<9}  {note:<19}  {schedule}"
         )?;
         Ok(format!(in self.alloc; "{}\n", line.as_str().trim_ascii_end())?.into_bytes())
     }
@@ -217,9 +222,9 @@ fn put_remark<D: fmt::Display + Drop>(note: &mut String, remark: D) -> Result<()
     write!(note, "{sign}{remark}")
 }
 
-// Puts the remarks on a file that was searched at the end of its note: that its bad schedule was
-// expected, or which expectation wasn't seen to be met; and what the search leaves open, if
-// anything. If it was cut short and found no bad schedule, nothing is said of an expectation.
+// Puts the remarks on a file that was searched at the end of its note: that this was expected, or
+// which expectation wasn't seen to be met; and what the search leaves open, if anything. If it was
+// cut short and found no bad schedule, nothing is said of an expectation.
 fn put_search_remarks(
     note: &mut String,
     entry: &Entry,
@@ -227,7 +232,7 @@ fn put_search_remarks(
 ) -> Result<(), AllocError> {
     let Found { report, bad } = &searched.found;
     match (entry.expected, entry.status(), bad) {
-        (None | Some(ExpectedVerdict::Clean), 0, _) | (None, _, _) | (_, 3, None) => {}
+        (None, _, _) | (_, 3, None) => {}
         (Some(_), 0, _) => put_remark(note, "expected")?,
         (Some(expected), _, _) => put_remark(note, format_args!("{expected} was expected"))?,
     }
