@@ -170,9 +170,17 @@ EXPECTATIONS = [
     *((words, RACE, 2, "line 1: " + UNCLEAR) for words in
       ("Bad", "bad # why", "bad -1", "bad 1 2", "bad one", "bad 4294967296", "good", "")),
 ]
+# Lines that the C preprocessor lets through, before RACE: the status, and the note.
+FOR_CPP = [
+    ("#pragma expect: bad", 0, "expected"), ("  # pragma\texpect:clean ", 1, "clean was expected"),
+    ("#pragma expect: bad 1\n# 2 \"race.c\"", 0, "expected"), ("#pragma expect: stuck", 1, "stuck was expected"),
+    ("#pragma expect: bad ONE", 2, "line 1: " + UNCLEAR), ("#pragma expect: bad\n# expect: bad", 2, "line 2: " + UNCLEAR),
+    ("#pragma once", 1, ""), ("#pragmaexpect: bad", 1, ""), ("#pragma pragma expect: bad", 1, ""),
+]
 # Lines that look like an expectation and are none, and comments that don't.
 NEAR = ["# Expect: bad", "# expects: bad", "# expect : bad", "## expect: bad", "# expected: bad", "# EXPECT: bad",
-        "# expect bad", "# expect = bad", "# expects bad 1", "var z; # expect: bad"]
+        "# expect bad", "# expect = bad", "# expects bad 1", "var z; # expect: bad", "#pragma expect bad",
+        "#pragma Expect: bad", "var z; #pragma expect: bad"]
 NOT_NEAR = ["# expect no wonders", "# as we expect: bad", "# bad", "# expecting a bad end", "# an expectation: bad"]
 
 # What `verify` prints, and the status. Of EIGHTS a schedule of N blocks, of which each but the last two is left by a
@@ -564,6 +572,8 @@ class Commands(Tester):
         """What is expected is met or not, and a comment that is nearly an expectation is told of."""
         for words, text, status, note in EXPECTATIONS:
             self.told_of_text("# expect: %s\n%s" % (words, text), status, note)
+        for line, status, note in FOR_CPP:
+            self.told_of_text(line + "\n" + RACE, status, note)
         for line in NEAR:
             told = "looks like `# expect:` and isn't"
             self.told_of_text(line + "\n" + APART, 0, "line 1 " + told)

@@ -43,9 +43,10 @@ pub enum Expectation {
 }
 
 impl Expectation {
-    /// What a text expects by a line `# expect: WORDS`: unclear where there are two such lines, or
-    /// the words state no verdict. Blanks around the `#`, around the words, and at both ends of the
-    /// line make no difference.
+    /// What a text expects by a line `# expect: WORDS`, or `#pragma expect: WORDS`, which the C
+    /// preprocessor lets through: unclear where there are two such lines, or the words state no
+    /// verdict. Blanks around the `#`, around the words, and at both ends of the line make no
+    /// difference.
     pub fn of_text(text: &[u8]) -> Expectation {
         let mut found = Expectation::Absent;
         for (line, number) in text.split(|b| *b == b'\n').zip(1u64..) {
@@ -92,8 +93,18 @@ fn parse_decimal(digits: &[u8]) -> Option<u32> {
 // The words after `# expect:` in a line; `None` where the line is no such comment.
 fn expectation_words(line: &[u8]) -> Option<&[u8]> {
     let comment = line.trim_ascii().strip_prefix(b"#")?;
-    let words = comment.trim_ascii().strip_prefix(b"expect:")?;
+    let words = without_pragma(comment).strip_prefix(b"expect:")?;
     Some(words.trim_ascii())
+}
+
+// What a comment says after its `#`, without the word `pragma` if it begins so, and without the
+// blanks around.
+fn without_pragma(comment: &[u8]) -> &[u8] {
+    let words = comment.trim_ascii();
+    match words.strip_prefix(b"pragma") {
+        Some(rest) if rest.first().is_some_and(u8::is_ascii_whitespace) => rest.trim_ascii(),
+        _ => words,
+    }
 }
 
 /// The number, counted from 1, of the first line with a comment that looks like an expectation and
@@ -113,10 +124,10 @@ fn is_lookalike(line: &[u8]) -> bool {
     let Some(sign) = line.iter().position(|b| *b == b'#') else {
         return false;
     };
-    let comment = trim_start_matches(
+    let comment = without_pragma(trim_start_matches(
         line.split_at(sign).1,
         |b| b == b'#' || b.is_ascii_whitespace(),
-    );
+    ));
     if comment.len() < EXPECT.len() {
         return false;
     }

@@ -13,7 +13,7 @@ syntax match guestNumber "\<\d\+\>"
 syntax match guestOperator "==\|!=\|<=\|>=\|[-<>+*=]"
 syntax match guestMark "[{};]"
 syntax match guestComment "#.*$" contains=guestExpect
-syntax match guestExpect "^\s*#\s*\zsexpect:\s*\(bad\|clean\)\s*$" contained
+syntax match guestExpect "^\s*#\s*\(pragma\s\+\)\?\zsexpect:\s*\(bad\(\s\+\d\+\)\?\|failed\|stuck\|clean\)\s*$" contained
 
 highlight default link guestName Identifier
 highlight default link guestDeclaration Type
