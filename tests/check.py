@@ -447,6 +447,29 @@ WARNED = [
     ("mutex m; var x;\nthread A { repeat 3 { ^lock m; add r x 1; if r { leave; } unlock m; } }", 4,
      "W8 MayKeep", "A may end with this mutex locked",
      "mutex m; var x;\nthread A { repeat 3 { lock m; add r x 1; unlock m; if r { leave; } } }"),
+    # tests that differ, a local of the test that is set between them, on one way alone, and the other side of the same test
+    ("mutex m; var x;\nthread A { add c x 1; if c == 1 { ^lock m; } if c == 2 { unlock m; } }", 4,
+     "W8 MayKeep", "A may end with this mutex locked",
+     "mutex m; var x;\nthread A { add c x 1; if c == 2 { lock m; } if c == 2 { unlock m; } }"),
+    ("mutex m; var x;\nthread A { add c x 1; if c == 1 { lock m; } if c { ^unlock m; } }", 6, "W9 MayLack", "A may come here without this mutex",
+     "mutex m; var x;\nthread A { add c x 1; if c { lock m; } if c { unlock m; } }"),
+    ("mutex m; var x;\nthread A { add c x 1; if c == 1 { ^lock m; } add c x 1; if c == 1 { unlock m; } }", 4,
+     "W8 MayKeep", "A may end with this mutex locked",
+     "mutex m; var x;\nthread A { add c x 1; if c == 1 { lock m; } add d x 1; if c == 1 { unlock m; } }"),
+    ("mutex m; var x;\nthread A { add c x 1; add d x 1; if d == c { lock m; } if c == 2 { set c 0; } if d == c { ^unlock m; } }", 6,
+     "W9 MayLack", "A may come here without this mutex",
+     "mutex m; var x;\nthread A { add c x 1; add d x 1; if d == c { lock m; } if c == 2 { set e 0; assert e == c; } if d == c { unlock m; } }"),
+    ("mutex m; var x;\nthread A { add c x 1; if c { ^lock m; } if c { store x 5; } else { unlock m; } }", 4,
+     "W8 MayKeep", "A may end with this mutex locked",
+     "mutex m; var x;\nthread A { add c x 1; if c { store x 4; } else { lock m; } if c { store x 5; } else { unlock m; } }"),
+    # the loop may end with the lock
+    ("mutex m; var x;\nthread A { repeat 3 { add c x 1; if c { ^lock m; } if c == 2 { leave; } if c { unlock m; } } }", 4,
+     "W8 MayKeep", "A may end with this mutex locked",
+     "mutex m; var x;\nthread A { repeat 3 { add c x 1; if c { lock m; } add d x 1; if c { unlock m; } if d == 2 { leave; } } }"),
+    # of another mutex
+    ("mutex m; mutex n; var x;\nthread A { add c x 1; if c { ^lock m; } if c { unlock n; } }", 4,
+     "W8 MayKeep", "A may end with this mutex locked",
+     "mutex m; mutex n; var x;\nthread A { add c x 1; if c { lock m; lock n; } if c { unlock m; unlock n; } }"),
     # the second of two locks on the way to here is the fault, not the last unlock
     ("mutex m; var x;\nthread A { lock m; load r x; if r { ^lock m; store x 2; unlock m; } unlock m; }",
      4, "W15 LocksAgain", "A comes here with this mutex locked by itself",
@@ -494,6 +517,9 @@ CLEAN = [
     "mutex m; var x;\nthread A { add r x 1; lock m; if r { store x 1; } unlock m; }",
     # starts above 0
     "sem s = 1;\nthread A { acquire s; }",
+    # a `lock` and what needs it under one test, with another test between them; after each turn of a loop the test is another
+    "mutex m; cond c; var x;\nthread A { repeat 3 { add r x 1; if r == 1 { lock m; } if r { store x 5; }\n"
+    "if r == 1 { wait c m; # allow W14\nunlock m; } } }\nthread B { signal c; }",
     # an assertion of numbers alone, as of what must not be come to
     "thread A { assert 1 == 1; assert 0; }",
 ]

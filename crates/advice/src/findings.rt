@@ -87,7 +87,7 @@ impl Compiled<'_> {
         let warnings = all_warnings(alloc, self.program)?;
         let found: Vec<Finding> = warnings.iter().map(|w| self.locate(*w)).collect(alloc)?;
         for finding in &found {
-            if self.is_reported(&found, *finding) {
+            if self.is_reported(&found, *finding) && !self.is_ruled_out(alloc, finding.warning)? {
                 let mut told = Message::new(alloc);
                 let title = self.tell_warning(&mut told, finding.warning)?;
                 self.add_diagnostic(all, (Severity::Warning, title), finding.at, told)?;

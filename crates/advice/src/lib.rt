@@ -3,8 +3,8 @@
 //! - [`check`] answers why a text is refused, or the warnings of its program: a text is refused
 //!   exactly where it doesn't parse or its tree has a fault, and the short form and the place are
 //!   those of the refusal.
-//! - The warnings are those of `lint`; here they get their places. With a limit, it is also told what
-//!   `lint` saw in that many schedules of the program.
+//! - The warnings are those of `lint`; here they get their places, and those of a mutex that tests
+//!   rule out go. With a limit, it is also told what `lint` saw in that many schedules of the program.
 //! - [`advice_text`] answers the lines of diagnostics that `messages` writes, with carets under
 //!   the bytes in question. Above a diagnostic comes the file and line that its line comes from,
 //!   where a preprocessor's mark in the text tells it.
@@ -23,6 +23,7 @@ ghost use Rattle.guest_code.specs.Code.{code};
 ghost use Rattle.guest_code.specs.Fault.{fault, Refuses};
 ghost use Rattle.advice.specs.Told.{Tells, is_warning, is_warned};
 
+mod agreeing;
 mod allowed;
 mod compiled;
 mod explored;
