@@ -5,6 +5,7 @@ use crate::text::TextWriter;
 use causes::{Event, is_decided};
 use guest_code::program::Instruction;
 use std::alloc::AllocError;
+use std::collections::BTreeSet;
 use text_lines::Page;
 
 const MOST_TESTS: usize = 4;
@@ -28,34 +29,28 @@ impl TextWriter<'_> {
         end: usize,
         values: &mut Vec<usize>,
     ) -> Result<(), AllocError> {
-        let mut told = Vec::new(self.alloc);
-        for (at, test) in self.causes.events().iter().enumerate().take(end).rev() {
-            let place = self.source.place(test.thread, test.instruction);
-            let is_new = is_test(test)
-                && self.is_event_in_cause(at)
-                && !told.as_slice().contains(&place);
-            if is_new && told.len() < MOST_TESTS {
-                told.push(place)?;
-                self.put_test(page, at, test, end)?;
-                if let Instruction::SkipIfZero(expression, _) = test.statement {
+        // the variables that later events of the cause read
+        let (mut told, mut read) = (Vec::new(self.alloc), BTreeSet::new(self.alloc));
+        for (at, test) in self.causes.events().iter().enumerate().rev() {
+            if !self.is_event_in_cause(at) {
+                continue;
+            }
+            if at < end
+                && told.len() < MOST_TESTS
+                && let Instruction::SkipIfZero(expression, _) = test.statement
+            {
+                let place = self.source.place(test.thread, test.instruction);
+                if !told.as_slice().contains(&place) {
+                    told.push(place)?;
+                    let mut words = self.outcome_text(at, test, end, &read)?;
+                    words.push_str(self.test_text(test)?.as_str())?;
+                    page.put_indented(words.as_str(), TEST_INDENT, INDENT)?;
                     self.put_new_values(page, (at, expression), VALUE_LAYOUT, values)?;
                 }
             }
+            read.extend(test.variable_read())?;
         }
         Ok(())
-    }
-
-    // Writes what the test at place `at` led its thread to, or past, and what the test was.
-    fn put_test(
-        &self,
-        page: &mut Page,
-        at: usize,
-        test: &Event,
-        end: usize,
-    ) -> Result<(), AllocError> {
-        let mut words = self.outcome_text(at, test, end)?;
-        words.push_str(self.test_text(test)?.as_str())?;
-        page.put_indented(words.as_str(), TEST_INDENT, INDENT)
     }
 
     /// As text, that something is so since a test was as it was.
@@ -67,8 +62,15 @@ impl TextWriter<'_> {
     }
 
     // As text, what a test led to: the event at place `end`, else the next of the cause, no test,
-    // that it decides, else the write that it passed by and that is read, else the next test.
-    fn outcome_text(&self, at: usize, test: &Event, end: usize) -> Result<String, AllocError> {
+    // that it decides, else the write that it passed by of one of the variables `read` later, else
+    // the next test.
+    fn outcome_text(
+        &self,
+        at: usize,
+        test: &Event,
+        end: usize,
+        read: &BTreeSet<usize>,
+    ) -> Result<String, AllocError> {
         let (name, last) = (self.thread_name(test.thread), self.event(end));
         if last.is_some_and(|last| self.decides(test, &last)) {
             return "came here".to_string(self.alloc);
@@ -80,7 +82,7 @@ impl TextWriter<'_> {
             .min_by_key(|(_, event)| is_test(event));
         let first = test.instruction.saturating_add(1);
         let mut passed = first..first.saturating_add(test.jump_length());
-        let passed = passed.find(|place| self.is_write_read_after(at, test.thread, *place));
+        let passed = passed.find(|place| self.writes_one(test.thread, *place, read));
         if let Some((_, event)) = led
             && (passed.is_none() || !is_test(&event))
         {
@@ -90,21 +92,16 @@ impl TextWriter<'_> {
         format!(in self.alloc; "{name} passed by {passed},")
     }
 
-    // Whether the instruction writes a variable that an event of the cause reads after place `at`.
-    fn is_write_read_after(&self, at: usize, thread: u8, instruction: usize) -> bool {
-        let variable = match self.source.instruction(thread, instruction) {
+    // Whether the instruction of this number of a thread writes, or may write, one of these variables.
+    fn writes_one(&self, thread: u8, instruction: usize, variables: &BTreeSet<usize>) -> bool {
+        match self.source.instruction(thread, instruction) {
             Some(
                 Instruction::Store { variable, .. }
                 | Instruction::Add { variable, .. }
                 | Instruction::Cas { variable, .. },
-            ) => variable,
-            _ => return false,
-        };
-        let later = self.causes.events().iter().enumerate();
-        later
-            .skip(at.saturating_add(1))
-            .filter(|(place, _)| self.is_event_in_cause(*place))
-            .any(|(_, event)| event.variable_read() == Some(variable))
+            ) => variables.contains(&variable),
+            _ => false,
+        }
     }
 
     fn decides(&self, test: &Event, later: &Event) -> bool {
