@@ -156,6 +156,8 @@ class Explained(Tester):
             for line in lines[:-2]:
                 self.expect("%s: %r is wider than %d" % (guest, line, width), len(line) <= width)
                 self.expect("%s: %r ends with a space" % (guest, line), line == line.rstrip())
+                self.expect("%s: %r has a statement that is cut off, at %d columns" % (guest, line, width),
+                            width < 60 or not re.search(r"\w\.\.( |$)", line))
 
     def steps(self, guest, schedule):
         told = json.loads(self.explain(EXAMPLES, guest, schedule, "--json").out)

@@ -203,15 +203,11 @@ impl TextWriter<'_> {
         Ok(changes)
     }
 
-    // Adds `words` to a row, cut off where the columns of the threads end.
-    fn put_clipped(&self, row: &mut String, words: &str) -> Result<(), AllocError> {
-        let room = self.columns.end().saturating_sub(width_of(row.as_str()));
-        put_truncated(row, words, room)
-    }
-
-    // Writes a row with `changes` in its last column; what doesn't fit there goes to further lines.
+    // Writes a row with `changes` in its last column, further right where a statement takes more than
+    // its own column; what doesn't fit there goes to further lines.
     fn put_row(&self, page: &mut Page, row: &str, changes: &str) -> Result<(), AllocError> {
-        page.put_columns(row, changes, self.columns.changes, self.columns.changes)
+        let (start, column) = (width_of(row).saturating_add(GAP), self.columns.changes);
+        page.put_columns(row, changes, start.max(column), column)
     }
 
     // Adds to a row an instruction's line and, in its thread's column, `action`. In a shared column
@@ -231,7 +227,8 @@ impl TextWriter<'_> {
         if thread as usize >= self.columns.own {
             self.put_thread_label(row, thread, self.columns.label.max(SHORTEST_LABEL))?;
         }
-        self.put_clipped(row, action)
+        let room = self.columns.width.saturating_sub(width_of(row.as_str()));
+        put_truncated(row, action, room)
     }
 
     // Adds a name, cut off to `room` columns, or the thread's number if another name begins alike.
@@ -242,13 +239,9 @@ impl TextWriter<'_> {
         room: usize,
     ) -> Result<(), AllocError> {
         let name = self.thread_name(thread);
-        let begun = room.saturating_sub(2);
-        let is_alike = |other: u8| other != thread
-            && self
-                .thread_name(other)
-                .chars()
-                .take(begun)
-                .eq(name.chars().take(begun));
+        let begun = name.as_bytes().get(..room.saturating_sub(2)).unwrap_or(&[]);
+        let begins_alike = |other: u8| self.thread_name(other).as_bytes().starts_with(begun);
+        let is_alike = |other: u8| other != thread && begins_alike(other);
         if width_of(name) > room && (0..self.source.program.threads()).any(is_alike) {
             return write!(row, "{thread}: ");
         }
@@ -435,7 +428,11 @@ impl TextWriter<'_> {
         let is_long = blocked.len() > width.saturating_add(1);
         row.push_str(if is_long { "BLOCKED" } else { blocked.as_str() })?;
         pad_to(under, start)?;
-        put_truncated(under, self.blocked_action(wait)?.as_str(), width)
+        let mut further = (0..self.columns.own).skip(thread as usize).skip(1);
+        let next = further.find(|t| self.waits.get(*t as u8).is_some());
+        let end = next.map_or(self.columns.width, |t| self.columns.start(t));
+        let room = end.saturating_sub(start.saturating_add(GAP));
+        put_truncated(under, self.blocked_action(wait)?.as_str(), room)
     }
 }
 

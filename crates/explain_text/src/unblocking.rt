@@ -239,11 +239,8 @@ impl TextWriter<'_> {
 
 // The first statement that a thread comes to, or else may come to; `None` where there is neither.
 fn first_ahead(statements: &[Statement]) -> Option<Statement> {
-    let mut ahead = statements.iter().copied();
-    let mut perhaps = statements.iter().copied();
-    ahead
-        .find(|statement| statement.fate == Fate::Ahead)
-        .or_else(|| perhaps.find(|statement| statement.fate == Fate::Perhaps))
+    let of = |fate: Fate| statements.iter().copied().find(|each| each.fate == fate);
+    of(Fate::Ahead).or_else(|| of(Fate::Perhaps))
 }
 
 // The place of the first step that carried a statement out; `None` where none did.

@@ -71,22 +71,25 @@ impl Page {
         indent: usize,
     ) -> Result<(), AllocError> {
         self.text.push_str(first)?;
-        let mut column = width_of(first);
+        let column = width_of(first);
         if !second.is_empty() {
             let gap = start.saturating_sub(column).max(usize::from(column > 0));
-            self.put_spaces(gap)?;
-            column = column.saturating_add(gap);
-            self.put_words(second, column, indent)?;
+            self.put_words(second, column, gap, indent)?;
         }
         self.text.push('\n')
     }
 
-    // Adds words to the last line, which has `from` columns. What doesn't fit goes to further
-    // lines, from column `indent` on.
-    fn put_words(&mut self, words: &str, from: usize, indent: usize) -> Result<(), AllocError> {
+    // Adds words to the last line, which has `from` columns, after `gap` spaces. What doesn't fit
+    // goes to further lines, from column `indent` on.
+    fn put_words(
+        &mut self,
+        words: &str,
+        from: usize,
+        mut gap: usize,
+        indent: usize,
+    ) -> Result<(), AllocError> {
         let mut column = from;
-        let mut gap = 0;
-        let mut is_first = true;
+        let mut is_first = from <= indent;
         for word in words.split(' ') {
             if !word.is_empty() {
                 let end = column.saturating_add(gap).saturating_add(width_of(word));
