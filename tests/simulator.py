@@ -985,7 +985,7 @@ class Sentences:
             return "set in " + site
         words = {"load": "loaded in step %d (%s) from %s" % (step, self.line_in(event), variable),
                  "add": "read in step %d (%s) from %s" % (step, site, variable),
-                 "cas": "since step %d %s (%s): %s was %d" % (
+                 "cas": "because step %d %s (%s): %s was %d" % (
                      step, "hit" if event["value"] else "missed", site, variable, self.number(step, "old"))}[event["word"]]
         writer = self.last(event["at"], lambda e: e.get("writes") == variable)
         if writer is None:

@@ -106,9 +106,9 @@ impl TextWriter<'_> {
                 write!(words, "loaded in step {step} ({}) from {x}", site.line)?;
             }
             Instruction::Cas { .. } => {
-                let outcome = if value == 0 { "missed" } else { "hit" };
+                let did = if value == 0 { "missed" } else { "hit" };
                 let (old, _) = self.old_and_new(step);
-                write!(words, "since step {step} {outcome} ({site}): {x} was {old}")?;
+                write!(words, "because step {step} {did} ({site}): {x} was {old}")?;
             }
             _ => write!(words, "read in step {step} ({site}) from {x}")?,
         }
