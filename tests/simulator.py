@@ -866,8 +866,8 @@ def explanation(name, text, schedule, search):
 # ---- the sentences
 
 class Sentences:
-    """What the text says of a failure under its first line, a line for each that the text has, unwrapped; and what it says of
-    each step that the step changed."""
+    """What the text says of a failure above the table, a line for each that the text has, unwrapped; and what it says of each
+    step that the step changed."""
 
     def __init__(self, name, text, schedule):
         self.run, self.file = Run(Guest(text)), name
@@ -913,7 +913,17 @@ class Sentences:
                  for one in self.run.threads[event["thread"]].run_out()]
         reason = self.values(at, event["statement"].parts[0], 4, 8, False) if event["word"] == "assert" else \
             self.reason(at, event)
-        return reason + loops + self.tests(at)
+        return [self.head(at), *reason, *loops, *self.tests(at)]
+
+    def head(self, at):
+        """What failed, where, in which thread and turns, and after how much."""
+        failure, event = self.run.failures[0], self.events[at]
+        few = lambda count, thing: "%d %s%s" % (count, thing, "s" * (count != 1))
+        turns = "".join(", turn %d of %d" % one for one in self.run.threads[event["thread"]].told_turns(event["place"]))
+        place = failure.get("from") or {"file": self.file, "line": failure["line"]}
+        return "%s:%d: FAILED: %s   in %s%s after %s with %s." % (
+            place["file"], place["line"], failure["text"], failure["name"], turns and turns + ",",
+            few(0 if failure["step"] is None else failure["step"] + 1, "step"), few(failure["preemptions"], "preemption"))
 
     def reason(self, at, event):
         name = event["statement"].parts[-1]
@@ -1379,7 +1389,8 @@ class Explanations(Tester):
         rows = [line for line in lines[table + 2:lines.index("", table)] if line[:4].strip().isdigit()]
         rows = [line[lines[table].index("what changed"):] for at, line in enumerate(rows) if line[:4] not in {
             other[:4] for other in rows[:at]}]
-        for what, got, want in (("head", lines[1:table - 1], said.lines()),
+        head = said.lines()
+        for what, got, want in (("head", lines[0 if head else 1:table - 1], head),
                                 ("rows", rows, [said.changes(step) for step in said.steps])):
             self.expect("the %s of explain %s %s" % (what, name, schedule_text(schedule)), got == want,
                         *("%r, not %r" % pair for pair in zip(got, want) if pair[0] != pair[1]))

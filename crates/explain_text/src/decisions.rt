@@ -56,8 +56,7 @@ impl TextWriter<'_> {
     /// As text, that something is so since a test was as it was.
     pub fn test_text(&self, test: &Event) -> Result<String, AllocError> {
         let (site, outcome) = (self.event_site(test), test.value() != 0);
-        let comma = if site.line.turns.len() == 0 { "" } else { "," };
-        let (statement, line) = (site.statement, site.line);
+        let (statement, line, comma) = (site.statement, site.line, site.line.comma());
         format!(in self.alloc; " since `{statement}` in {line}{comma} was {outcome}")
     }
 

@@ -70,9 +70,9 @@ impl TextWriter<'_> {
         let steps = failure.step.map_or(0, |at| at.saturating_add(1));
         let counts = self.counts_text(steps, failure.preemptions)?;
         let (line, turns) = (site.line.line.0.with_name(), site.line.turns);
-        let (statement, name) = (site.statement, site.name);
+        let (statement, name, comma) = (site.statement, site.name, site.line.comma());
         let head = format!(in self.alloc;
-            "{line}: FAILED: {statement}   in {name}{turns} {counts}"
+            "{line}: FAILED: {statement}   in {name}{turns}{comma} {counts}"
         )?;
         page.put_line(head.as_str(), INDENT)?;
         let mut told = Vec::new(self.alloc);

@@ -91,6 +91,13 @@ pub struct InTurn<'a> {
     pub turns: InTurns<'a>,
 }
 
+impl InTurn<'_> {
+    /// A comma where turns are told, for words that go on after them.
+    pub fn comma(&self) -> &'static str {
+        if self.turns.len() == 0 { "" } else { "," }
+    }
+}
+
 impl fmt::Display for InTurn<'_> {
     fn fmt<W: fmt::Write>(&self, f: &mut fmt::Formatter<W>) -> fmt::Result {
         write!(f, "{}{}", self.line, self.turns)
