@@ -71,7 +71,7 @@ window.addEventListener("load", () => {
     edges: all("#graph .edge").length, circles: all("#graph .edge.circle").length, label: all("#graph svg").map((e) =>
     e.getAttribute("aria-label")), marks: all("#lanes .cause").map((e) => e.id), failed: all("#lanes .failed").length,
     numbers: all("#source .number").map((e) => [e.textContent, e.title]),
-    from: (text("place").match(/ \\(([^()]*:\\d+)\\)$/) || ["", ""])[1],
+    place: text("place"), labels: all("#lanes .label").map((e) => e.textContent),
     counts: text("counts"), ends: [...search.querySelectorAll("tr")].map((tr) =>
       [...tr.children].map((td) => td.textContent)) };
   const out = document.createElement("pre");
@@ -207,6 +207,17 @@ def numbers(told):
         yield [str(here["line"]), "%(file)s:%(line)d" % here] if here else [str(at), ""]
 
 
+def place(told, rows, labels):
+    """What is said of the chosen step, the last one with a row: whose it is, where it is, and what its row says."""
+    if not rows:
+        return "at the start"
+    step = told["steps"][rows[-1]]
+    at = " (%(file)s:%(line)d)" % step["from"] if "from" in step else ""
+    at += "".join(", turn %(turn)d of %(of)d" % one for one in step.get("turns", []))
+    return "after step %d of 0 to %d: %s%s %s" % (
+        step["step"], len(told["steps"]) - 1, step["name"], at and at + ":", labels[-1])
+
+
 def graph(told):
     """Who waits for whom at the end: the names that are there, the edges, and those of a circle."""
     waits = {thread["name"]: (thread["waits"] or {}).get("on", []) for thread in told["threads"]}
@@ -257,8 +268,7 @@ def faults(tester, browser, path, search):
             "ends": rows, "beside": [beside(told)[k] for k in places], "unseen": [], "wide": 0, "summary": line,
             "opened": last if ran == len(told["steps"]) else ran, "why": paragraphs, "command": command,
             "links": list(links(told, shown_steps, paragraphs)), **graph(told), "numbers": list(numbers(told)),
-            "from": "%(file)s:%(line)d" % told["steps"][shown_steps[-1]]["from"]
-            if last and "from" in told["steps"][shown_steps[-1]] else "",
+            "place": place(told, shown_steps, got.pop("labels")),
             "keys": {"End": last, "ArrowRight": last, "Home": 0, "ArrowLeft": 0, "ArrowDown": min(1, last), "ArrowUp": 0},
             "marks": ["step%d" % step["step"] for step in told["steps"] if step.get("cause")],
             "rows": ["step%d" % k for k in shown_steps],

@@ -392,7 +392,7 @@ function show(place) {
   const from = step !== null && step.from ? " (" + step.from.file + ":" + step.from.line + ")" : "";
   const turns = step === null ? [] : step.turns || [], at = from + turns.map((t) => ", turn " + t.turn + " of " + t.of).join("");
   const words = step === null ? "at the start"
-    : "after step " + step.step + " of 0 to " + (steps.length - 1) + ": " + step.name + " " + label(step) + at;
+    : "after step " + step.step + " of 0 to " + (steps.length - 1) + ": " + step.name + at + (at ? ": " : " ") + label(step);
   byId("slider").value = place;
   byId("slider").setAttribute("aria-valuetext", words);
   byId("place").textContent = words;
