@@ -11,10 +11,8 @@ its statements. Its flat code is laid out only to say what a test passes over.
   finds, and by schedules drawn at random: complete ones, some cut short, some that name a thread which
   can't go on, some that go on past the end. So are N programs made at random (300), and a few that have
   what chance seldom makes: several circles, waits through conditions and semaphores.
-- The whole output is compared, byte for byte. Where it differs, the first fields that do are named. So are the sentences
-  in the head of the text, and what it says that each step changed.
-- Of the text it compares what is said of those that could end a wait: whether a waiter would go on if it were
-  woken, who has yet to come to a statement or may, and how often a thread passed one by.
+- The whole output is compared, byte for byte. Where it differs, the first fields that do are named. So is the text but for the
+  form of its table: the lines of the head, what each step changed, and the lines on who waits, and who could end the waits.
 - Each field must have been seen with two values at least, so that no guest is too poor to show a
   constant one; and the comparison must notice each field of an explanation that is changed, left out or
   put in, one at a time.
@@ -711,34 +709,6 @@ class Run:
             one is statement for statement in statements
             for one, _, _ in thread.code[event["place"] + 1:event["place"] + 1 + event.get("passes", 0)])]
 
-    def sentences(self):
-        """What the text says under `Who could`: of each that waits for a condition whether it would go on, and with
-        which values; of each thread what it has yet to come to or may come to, and how often and in which step last it
-        passed a statement by."""
-        told, waiting = [], [(t, self.blocked_by(t)) for t in self.threads if self.blocked_by(t)]
-        if not (self.kind() == "stuck" or self.failures):
-            return told
-        for why in dict.fromkeys((self.ended_by(t, why), why[1]) for t, why in waiting if self.ended_by(t, why)):
-            told.append(why)
-            those = [t for t, other in waiting if other[1] == why[1]]
-            for thread in those if why[0] == "signal" else []:
-                again, loaded = thread.look(self.values)
-                if again or loaded:
-                    told.append((thread.name, "wait again" if again else "go on",
-                                 ", ".join(self.present(thread, name) for name in dict.fromkeys(loaded))))
-            for thread in self.threads:
-                waiter = next((t for t in those if t is not thread), those[0])
-                theirs = [one for other, one in self.enders(waiter) if other is thread]
-                ways = thread.ways() if waiter is not thread else ((), ())
-                for verb, numbers in zip(("has yet to", "may"), ways):
-                    if any(at < len(thread.code) and thread.code[at][0] in theirs for at in numbers):
-                        told.append((thread.name, verb))
-                        break
-                passes = self.passes(thread, theirs)
-                if passes:
-                    told.append((thread.name, "passed", len(passes), passes[-1] if len(passes) > 1 else None))
-        return told
-
     def ended_by(self, thread, why):
         """By what statement the wait of a thread could end, if that is told: of a mutex where its owner ended and has
         such statements."""
@@ -866,12 +836,12 @@ def explanation(name, text, schedule, search):
 # ---- the sentences
 
 class Sentences:
-    """What the text says of a failure above the table, a line for each that the text has, unwrapped; and what it says of each
-    step that the step changed."""
+    """What the text says above and under the table, a line for each that the text has, unwrapped; and what it says of each step
+    that the step changed."""
 
     def __init__(self, name, text, schedule):
         self.run, self.file = Run(Guest(text)), name
-        self.run.carry_out(schedule)
+        self.refused = self.run.carry_out(schedule)
         self.events, self.steps = self.run.events, self.run.steps
         code = [(line.strip(), here) for line, here in zip(text.split("\n"), origins(text))]
         # The events that set the locals whose values were said.
@@ -954,12 +924,14 @@ class Sentences:
             passed = next((k for k, name in enumerate(self.run.written(test), test["place"] + 1) if name in read), None)
             came = "came here" if end in led else "came to %s," % self.site(goal) if goal else \
                 "passed by %s," % self.site_at(test["thread"], passed) if passed else "came to %s," % self.site(self.events[led[0]])
-            line = self.line_in(test)
-            lines.append("    %s%s since `%s` in %s%s was %s" % (
-                "" if end in led else thread + " ", came, test["statement"].spelled(), line, "," * ("turn" in line),
-                "true" if test["was"] else "false"))
+            lines.append("    %s%s%s" % ("" if end in led else thread + " ", came, self.decided(test)))
             lines += self.values(at, test["statement"].parts[0], 6, 3, True)
         return lines
+
+    def decided(self, test):
+        line = self.line_in(test)
+        return " since `%s` in %s%s was %s" % (
+            test["statement"].spelled(), line, "," * (", turn" in line), "true" if test["was"] else "false")
 
     def is_decided(self, event, test):
         return event["thread"] == test["thread"] and test["place"] < event["place"] < self.run.reach(test)
@@ -1010,6 +982,136 @@ class Sentences:
             words += "; %s made it %d in step %d" % (
                 self.itself(self.steps[change]["thread"], event["thread"]), self.number(change, "new"), change)
         return words
+
+    # ---- who waits
+
+    def reasons(self):
+        """What the text says under the table, but for its command: each part with an empty line after it."""
+        run = self.run
+        kind, self.waiting = run.kind(), [(t, run.blocked_by(t)) for t in run.threads if run.blocked_by(t)]
+        parts = []
+        if self.waiting and (kind == "stuck" or run.failures):
+            parts = [["Why nobody can go on" if kind == "stuck" else "Blocked meanwhile", *self.blocked()], *self.unblocking()]
+        words = self.refusal(kind)
+        if kind is None:
+            words += "Could go on: " + ", ".join("%s (%d)" % (run.threads[n].name, n) for n in run.enabled())
+        parts += [[words]] * bool(words)
+        return [line for part in parts for line in (*part, "")]
+
+    def refusal(self, kind):
+        """Why the next step can't be taken, or nothing where each one was."""
+        refused, run = self.refused, self.run
+        if refused is None:
+            return ""
+        words, thread = "Step %d can't be taken: " % len(self.steps), None
+        if refused >= len(run.threads):
+            words += "there is no thread %d." % refused
+        else:
+            thread = run.threads[refused]
+            why = {"stopped": "has stopped.", "ended": "has ended."}.get(thread.status) or "is blocked %s; %s." % (
+                self.blocked_at(thread), self.why(thread))
+            words += "%d %s %s" % (refused, thread.name, why)
+        return words + {"stuck": " Nobody can go on.", None: " "}.get(kind, " The run was over before it.")
+
+    def number_of(self, statement):
+        return self.line(statement).removeprefix("line ")
+
+    def blocked_at(self, thread):
+        word, name = self.run.blocked_by(thread)
+        return "at %s: %s" % (self.number_of(thread.at), "retake " + name if word == "retake" else thread.at.spelled())
+
+    def blocked(self):
+        """A line for each thread that can't go on, those of each circle first, with one that says so."""
+        rows = [(t.name, self.blocked_at(t), self.why(t)) for t, _ in self.waiting]
+        name, place = (max(len(row[at]) for row in rows) for at in (0, 1))
+        line = {row[0]: "  %-*s  %-*s   %s" % (name, row[0], place, row[1], row[2]) for row in rows}
+        for circle in self.run.circles():
+            yield from (line.pop(one) for one in circle)
+            yield "  %s %s" % (", ".join(circle), "wait for one another" if len(circle) > 1 else "waits for itself")
+        yield from line.values()
+
+    def why(self, thread):
+        """What a thread that can't go on waits for, who has it, and since when."""
+        (word, name), run = self.run.blocked_by(thread), self.run
+        if word == "signal":
+            return "waits for a signal on %s since step %d" % (
+                name, [step["step"] for step in self.steps if step["thread"] == thread.number][-1])
+        if word == "acquire":
+            taken = [step for step in self.steps if step["act"] == "acquire" and step["object"] == name][-1:]
+            return "%s is 0; %s took the last one (step %d, %s)" % (
+                name, taken[0]["name"], taken[0]["step"], self.line_of_step(taken[0]["step"])) if taken else \
+                "%s is 0 from the start" % name
+        owner = next(t for t in run.threads if t.name == run.owners[name])
+        end = ", which %s and owns it still" % owner.status if owner.status in ("ended", "stopped") else ""
+        return "%s is held by %s (since step %d, %s)%s" % (
+            name, owner.name, run.since[name], self.line_of_step(run.since[name]), end)
+
+    def line_of_step(self, step):
+        return self.line_in(self.run.step_events[step])
+
+    def unblocking(self):
+        """Of each object that is waited for, once, who could end the waits, and what came of it."""
+        for at, (thread, why) in enumerate(self.waiting):
+            verb = self.run.ended_by(thread, why)
+            if verb and all(why[1] != other[1] for _, other in self.waiting[:at]):
+                yield ["Who could %s %s" % (verb, why[1]), *self.looks(why), *self.fates(why)]
+
+    def looks(self, why):
+        """Whether each that waits so would go on if it were woken."""
+        for thread, other in self.waiting:
+            again, loaded = thread.look(self.run.values) if other == why and why[0] == "signal" else (False, [])
+            if again or loaded:
+                values = ", ".join(self.run.present(thread, name) for name in dict.fromkeys(loaded))
+                yield "  %s would %s if it were woken now%s" % (
+                    thread.name, "wait again" if again else "go on", values and ": " + values)
+
+    def fates(self, why):
+        """Of each thread what came of its statements that could end such a wait; at last that nobody is left, if so."""
+        those, is_one, is_ahead = [t for t, other in self.waiting if other == why], False, False
+        for thread in self.run.threads:
+            waiter = next((t for t in those if t is not thread), those[0])
+            theirs = [one for other, one in self.run.enders(waiter) if other is thread]
+            ahead = self.ahead(thread, theirs) if waiter is not thread else []
+            yield from [*self.did(thread, theirs), *ahead, *self.passed_by(thread, theirs)]
+            is_one, is_ahead = is_one or bool(theirs), is_ahead or bool(ahead)
+        if not is_ahead:
+            yield "  Nobody is left who can." if is_one else "  Nobody: no other thread has such a statement."
+
+    def did(self, thread, theirs):
+        steps = [at for at, (who, what) in enumerate(self.run.carried) if who is thread and any(what is one for one in theirs)]
+        for at in steps[-1:]:
+            often = "%d times, the last time " % len(steps) if len(steps) > 1 else ""
+            told = "  %s did %sin step %d (%s)" % (thread.name, often, at, self.line_of_step(at))
+            woken = self.steps[at]["woken"]
+            calls = self.steps[at]["act"] in ("signal", "broadcast")
+            yield told + (", and woke " + ", ".join(woken) if woken else ", when nobody waited" if calls else "")
+
+    def ahead(self, thread, theirs):
+        for verb, ways in zip(("has yet to", "may"), thread.ways()):
+            places = [at for at in sorted(ways) if at < len(thread.code) and any(thread.code[at][0] is one for one in theirs)]
+            if places:
+                held = ", but is blocked " + self.blocked_at(thread) if self.run.blocked_by(thread) else \
+                    ", but stopped at " + self.number_of(thread.at) if thread.status == "stopped" else ""
+                return ["  %s %s come to %s%s" % (thread.name, verb, self.line_at(thread.number, places[0]), held)]
+        return []
+
+    def passed_by(self, thread, theirs):
+        """How often a thread passed such statements by, when last, and by which test, with the values of that."""
+        over = lambda e: [at for at in range(e["place"] + 1, e["place"] + 1 + e.get("passes", 0))
+                          if any(thread.code[at][0] is one for one in theirs)]
+        passes = [event for event in self.events if event["thread"] == thread.number and over(event)]
+        for event in passes[-1:]:
+            site = self.site_at(thread.number, over(event)[0])
+            when = "at the start" if event["step"] is None else "in step %d" % event["step"]
+            words = "  %s passed by %s" % (thread.name, site if len(passes) == 1 else "%d times, the last time %s (%s)" % (
+                len(passes), when, site))
+            test = event if event["word"] == "if" else self.last(event["at"], lambda e: e["thread"] == thread.number and e[
+                "word"] == "if" and e["was"] and event["place"] <= e["place"] + thread.code[e["place"]][2])
+            if test is None:
+                return [words + ", by `leave` in " + self.line_in(event)]
+            self.said = []
+            return [words + ", " + self.decided(test).lstrip(), *self.values(test["at"], test["statement"].parts[0], 6, 3, True)]
+        return []
 
     def changes(self, step):
         """What the table says that a step changed."""
@@ -1077,6 +1179,12 @@ SHAPES = [
     # A mutex whose owner ended, having passed its unlock by; and one whose owner stopped before it.
     ("mutex m; var x; thread A { lock m; load r x; if r { unlock m; } } thread B { lock m; unlock m; }", "0x2"),
     ("mutex m; thread A { lock m; assert 0; unlock m; } thread B { lock m; unlock m; }", "0"),
+    # A mutex that its owner gave back by a wait, took again, and ended with.
+    ("mutex m; cond c; var x; thread B { lock m; wait c m; load r x; if r { unlock m; } } thread A { lock m; unlock m; } "
+     "thread S { signal c; }", "0x2,2,0x2"),
+    # A `leave` under no test, in two turns, before the first step; and a `cas` that misses.
+    ("mutex m; cond c; thread A { lock m; wait c m; } thread B { repeat 2 { repeat 1 { leave; signal c; } } }", "0x2"),
+    ("var x; thread A { cas ok x 1 2; assert ok; }", "0"),
     # Turns of nested loops, beside a loop with one; and tests in a loop, with an `else` in the same turn.
     ("var x; thread A { repeat 2 { repeat 1 { repeat 3 { add r x 1; assert r < 4; } } } } thread B { load r x; "
      "repeat 2 { load q x; assert r != 3; } }", "0x5"),
@@ -1343,25 +1451,16 @@ def at_path(value, path):
     return value
 
 
-TITLE = re.compile(r"Who could (\w+) (\w+)$")
-SENTENCE = re.compile(
-    r"  (\w+) (?:would (?P<verb>wait again|go on) if it were woken now(?:: (?P<values>.*))?$|(?P<comes>has yet to|may) come to |"
-    r"passed by (?:(?P<times>\d+) times, the last time (?:in step (?P<step>\d+)|at the start) )?)")
-
-
-def said(text):
-    """The sentences of a text that Run.sentences tells."""
-    told = []
-    for line in text.split("\n"):
-        title, found = TITLE.match(line), SENTENCE.match(line)
-        if title:
-            told.append(title.groups())
-        elif found and told:
-            name, part = found[1], found.groupdict()
-            told.append((name, part["verb"], part["values"] or "") if part["verb"] else
-                        (name, part["comes"]) if part["comes"] else
-                        (name, "passed", int(part["times"] or 1), part["step"] and int(part["step"])))
-    return told
+# What a sentence on who waits, or in the head, may have: each must have been said of some guest.
+PHRASES = (
+    "came here since", " came to line", "passed by line", " ran out of its ", " is free since step", " is held by ",
+    ", which is its limit", " hit (", " missed (", " itself set ", " itself made it ", "nobody had written before", "from the start",
+    " was interrupted", ", turn 2 of", "Why nobody can go on", "Blocked meanwhile", " wait for one another", " waits for itself",
+    "waits for a signal on", " took the last one ", ", which ended and owns", ", which stopped and owns", ": retake ",
+    "Who could signal", "Who could release", "Who could unlock", "would wait again", "would go on", " is still ", ", and was ",
+    " has yet to come to", " may come to", ", but is blocked at", ", but stopped at", "passed by 2 times", "last time at the start",
+    ", by `leave` in", " did in step", " did 2 times", ", when nobody waited", ", and woke ", "Nobody is left", "Nobody: no other",
+    "can't be taken", "there is no thread", "has ended.", "has stopped.", "Nobody can go on.", "The run was over", "Could go on: ")
 
 
 class Explanations(Tester):
@@ -1391,20 +1490,11 @@ class Explanations(Tester):
             other[:4] for other in rows[:at]}]
         head = said.lines()
         for what, got, want in (("head", lines[0 if head else 1:table - 1], head),
-                                ("rows", rows, [said.changes(step) for step in said.steps])):
+                                ("rows", rows, [said.changes(step) for step in said.steps]),
+                                ("reasons", lines[lines.index("", table) + 1:-2], said.reasons())):
             self.expect("the %s of explain %s %s" % (what, name, schedule_text(schedule)), got == want,
                         *("%r, not %r" % pair for pair in zip(got, want) if pair[0] != pair[1]))
-        self.sentences_on_waits(name, text, schedule)
-
-    def sentences_on_waits(self, name, text, schedule):
-        """So is what the text says of those that could end a wait."""
-        run, words = Run(Guest(text)), schedule_text(schedule)
-        run.carry_out(schedule)
-        want = run.sentences()
-        got = said(self.run("explain", name, words, "--width", 1000, cwd=ROOT).out) if want else []
-        self.expect("sentences of %s %s" % (name, words), got == want, repr(got), repr(want))
-        self.told.update(one[1] for one in want if len(one) > 2 or one[1] in ("has yet to", "may"))
-        self.told.update(one[0] for one in want if one[0] == "unlock")
+        self.told.update(phrase for phrase in PHRASES if any(phrase in line for line in head + said.reasons()))
 
     def searched(self, name, text, words):
         """A schedule that a search finds, with the report of that search: as far as a bound says; else up to the greatest
@@ -1427,8 +1517,7 @@ class Explanations(Tester):
         for at, values in sorted(self.seen.items()):
             self.expect("%s is always %r, so nothing is seen of it" % (at, values),
                         len(values) > 1 or values == {"an object"} or at in ALIKE)
-        self.expect("each sentence was seen: %r" % self.told,
-                    self.told == {"wait again", "go on", "has yet to", "may", "passed", "unlock"})
+        self.expect("each phrase was said", not set(PHRASES) - self.told, *set(PHRASES) - self.told)
 
     def notices(self, told):
         """The comparison notices each field that is changed, left out or put in."""

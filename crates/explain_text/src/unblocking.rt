@@ -165,11 +165,11 @@ impl TextWriter<'_> {
             write!(words, "{times} times, the last time ")?;
         }
         write!(words, "in step {at} ({})", site.line)?;
-        match step.object {
-            Object::Condition(_) if step.woken.is_empty() => {
+        match step.line.act {
+            Act::Signal(_) | Act::Broadcast(_) if step.woken.is_empty() => {
                 words.push_str(", when nobody waited")?;
             }
-            Object::Condition(_) => {
+            Act::Signal(_) | Act::Broadcast(_) => {
                 let woken = self.thread_names(step.woken.as_slice())?;
                 write!(words, ", and woke {woken}")?;
             }
