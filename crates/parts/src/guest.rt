@@ -35,10 +35,5 @@ pub fn first_of_another<'a>(parts: &'a [Part], text: &[u8]) -> Option<&'a Part>
     ensures none { IfNone result (All (IsOfText text.now) parts.now) }
 {
     let guest = GuestDigest::of_text(text);
-    for part in parts {
-        if part.guest != guest {
-            return Some(part);
-        }
-    }
-    None
+    parts.iter().find(|part| part.guest != guest)
 }
