@@ -2,7 +2,7 @@
 
 ghost use Rattle.std.specs.Prelude.{◌≡◌, ◌↔◌, ◌++◌, IsTrue, IfOk, OnOk, length};
 ghost use Rattle.explain.specs.Blocked.{mutex_of};
-ghost use Rattle.waits.specs.Endings.{blocked_of, owner_told, could_end, is_before, is_placed, statements_in, statements_to};
+ghost use Rattle.waits.specs.Endings.{blocked_of, owner_told, could_end, is_placed, statements_in, statements_to};
 ghost use Rattle.waits.specs.Looks.{after_wait};
 ghost use Rattle.waits.specs.inner.Rows.{lists, Fits, FindsAhead, FindsEdge};
 
@@ -76,22 +76,16 @@ impl Blocked {
     }
 
     // Whether the instruction of number `at` of thread `other` is one that may end the wait by its
-    // thread and place.
+    // thread and place: one of the mutex's owner; else one of another thread, or before the wait.
     fn may_be_ended_at(self, other: u8, at: usize) -> bool
         ensures { result ≡ is_placed self other at }
     {
         match self.reason {
             Reason::Lock(_) | Reason::Retake(_) => owns(other, self.owner),
-            Reason::Signal(_) | Reason::Acquire(_) => self.may_precede_wait_end(other, at),
+            Reason::Signal(_) | Reason::Acquire(_) => {
+                other != self.thread || at < self.instruction
+            }
         }
-    }
-
-    // Whether the instruction of number `at` of thread `other` can come before the wait ends:
-    // `other` isn't the waiting thread, or `at` is before the instruction at which that one waits.
-    fn may_precede_wait_end(self, other: u8, at: usize) -> bool
-        ensures { result ≡ is_before self other at }
-    {
-        other != self.thread || at < self.instruction
     }
 }
 

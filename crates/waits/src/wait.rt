@@ -102,12 +102,7 @@ impl Waits {
         ensures one { IfSome result (λ wait. Contains self.now.waits.items wait.now) }
         ensures none { IfNone result (All (λ wait. wait.thread ≢ thread) self.now.waits.items) }
     {
-        for wait in &self.waits {
-            if wait.thread == thread {
-                return Some(wait);
-            }
-        }
-        None
+        self.waits.iter().find(|wait| wait.thread == thread)
     }
 
     /// The circles: sets of threads each of which waits, directly or through others, for each of
@@ -189,11 +184,9 @@ fn is_first_of(set: Mask, thread: u8) -> bool
 fn circles_of(alloc: Global, waits: &[Wait]) -> Result<Vec<Mask>, AllocError>
     ensures { IfOk result (λ v. v.items ≡ circles_in waits.now) }
 {
-    let mut circles = Vec::new(alloc);
-    for wait in waits {
-        if is_first_of(wait.circle, wait.thread) {
-            circles.push(wait.circle)?;
-        }
-    }
-    Ok(circles)
+    waits
+        .iter()
+        .filter(|wait| is_first_of(wait.circle, wait.thread))
+        .map(|wait| wait.circle)
+        .collect(alloc)
 }
