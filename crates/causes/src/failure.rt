@@ -28,18 +28,14 @@ pub fn failure_of(steps: &[Step], events: &[Event]) -> Option<Failure>
     ensures { MatchOption result (NoneOf events.now stops 0 (length events.now))
         (IsFailure steps.now events.now) }
 {
-    for event in 0..events.len() {
-        if events[event].stop().is_some() {
-            let step = events[event].step;
-            return Some(Failure {
-                event,
-                thread: events[event].thread,
-                step,
-                preemptions: count_preemptions(&steps[..count_steps_up_to(step, steps.len())]),
-            });
-        }
-    }
-    None
+    let event = events.iter().position(|event| event.stop().is_some())?;
+    let step = events[event].step;
+    Some(Failure {
+        event,
+        thread: events[event].thread,
+        step,
+        preemptions: count_preemptions(&steps[..count_steps_up_to(step, steps.len())]),
+    })
 }
 
 // How many of a run's `all` steps are at place `step` or before it: all where the place is past

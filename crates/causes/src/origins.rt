@@ -108,14 +108,8 @@ fn last_before(events: &[Event], at: usize, sought: EventRole) -> Option<usize>
     ensures { MatchOption result (NoneOf events.now (has_role sought) 0 at)
         (IsLastBefore events.now (has_role sought) at) }
 {
-    let mut place = at.min(events.len());
-    'places: while place > 0 {
-        place -= 1;
-        if sought.matches(&events[place]) {
-            return Some(place);
-        }
-    }
-    None
+    let earlier = &events[..at.min(events.len())];
+    earlier.iter().rposition(|event| sought.matches(event))
 }
 
 // Whether a thread takes this mutex by what happens in an event: by a `lock`, or by the second step
