@@ -1,6 +1,6 @@
 //! Blocks, and the statements that hold them.
 
-ghost use Rattle.std.specs.Prelude.{◌≡◌, ◌<◌, map, option_map};
+ghost use Rattle.std.specs.Prelude.{◌≡◌, map, option_map};
 ghost use Rattle.guest_syntax.specs.reader.TokenViews.{kind_view};
 ghost use Rattle.guest_syntax.specs.Tree.{stmt_view, placed_view, block_view};
 ghost use Rattle.guest_syntax.specs.reader.Reads.{IsPlaceOf, Parses, Reads, StaysIn, TakesToken};

@@ -1,6 +1,6 @@
 //! Literals, operands and expressions.
 
-ghost use Rattle.std.specs.Prelude.{◌≡◌, ◌<◌, ◌≤◌, length, IfOk};
+ghost use Rattle.std.specs.Prelude.{◌≡◌, ◌≤◌, length, IfOk};
 ghost use Rattle.guest_syntax.specs.reader.TokenViews.{kind_view, token_view};
 ghost use Rattle.guest_syntax.specs.Tree.{operand_view, expr_view};
 ghost use Rattle.guest_syntax.specs.reader.Reads.{IsTokenOf, rest_of, Parses, Reads, StaysIn};

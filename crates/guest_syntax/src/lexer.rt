@@ -9,7 +9,7 @@ ghost use Rattle.guest_syntax.specs.reader.Reads.{Scans};
 ghost use Rattle.guest_syntax.specs.Place.{after};
 ghost use Rattle.guest_syntax.specs.Place as place;
 ghost use Rattle.guest_syntax.specs.Answers.{IsTokenIn, RefusalIn};
-ghost use Rattle.guest_syntax.specs.reader.TokenViews.{kind_view, token_view};
+ghost use Rattle.guest_syntax.specs.reader.TokenViews.{kind_view};
 ghost use Rattle.guest_syntax.specs.Tokens.{keyword_text, symbol_text, is_space, is_letter, is_digit, is_name_byte, blank};
 
 use crate::cursor::Cursor;

@@ -1,6 +1,6 @@
 //! Reading declarations and threads, up to the end of a text.
 
-ghost use Rattle.std.specs.Prelude.{◌<◌, map, IfErr, option_map};
+ghost use Rattle.std.specs.Prelude.{map, IfErr, option_map};
 ghost use Rattle.guest_syntax.specs.reader.Gives.{Gives};
 ghost use Rattle.guest_syntax.specs.Tree.{declaration_view, thread_view, tree_view};
 ghost use Rattle.guest_syntax.specs.Place.{start};

@@ -2,7 +2,6 @@
 
 ghost use Rattle.std.specs.Prelude.{◌≡◌, ◌+◌, ◌^◌, ◌≤◌, ◌<◌, ◌⊎◌, length, take, drop, IfSome, None, ℕ};
 ghost use Rattle.guest_syntax.specs.Place.{start};
-ghost use Rattle.guest_syntax.specs.Tokens.{blank};
 ghost use Rattle.guest_syntax.specs.Pieces.{IsGapBefore, IsWhole, IsStray, open_after, ClosesAt};
 
 use crate::cursor::Cursor;
