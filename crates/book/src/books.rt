@@ -2,7 +2,6 @@
 
 ghost use Rattle.std.specs.Prelude.{true, false, None, count_by, ◌≡◌, ◌<◌, ◌≤◌, ◌+◌, ◌-◌, ◌↔◌, [], length, drop, is_ok, if◌then◌else◌, IfOk, OnOk, IfErr, OnErr, Ok, IfSome, IfNone, IsTrue, slice_get, Some, All};
 ghost use Rattle.std.specs.Arc.{arc_value};
-ghost use Rattle.std.specs.List.{remove};
 ghost use Rattle.items.specs.declared.limits.TheConstants.{BOUND};
 ghost use Rattle.items.specs.declared.mode.Mode.TheVariants.{Bounded};
 ghost use Rattle.items.specs.Items.{whole, root_of, item_sum, AreOf};

@@ -1,6 +1,6 @@
 //! What a book lends to a worker.
 
-ghost use Rattle.std.specs.Prelude.{◌≡◌, [], length, OnOk};
+ghost use Rattle.std.specs.Prelude.{◌≡◌, [], OnOk};
 ghost use Rattle.std.specs.Arc.{arc_value};
 ghost use Rattle.items.specs.Items.{AreOf};
 ghost use Rattle.book.specs.ItemLists.{all_of};

@@ -1,6 +1,6 @@
 -- What follows of the marks.
-use Rattle.std.proofs.Common.{◌≡◌, ◌≢◌, ◌⊎◌, inl, inr, ℕ, ◌+◌, ◌<◌, List, length, Option, Some, None, refl, ap, ◌∙◌, sym, subst, arith}
-use Rattle.std.specs.Prelude.{Bool, true, false, ◌||◌, ◌&&◌, nat_eq, nat_lt, slice_index_or}
+use Rattle.std.proofs.Common.{◌≡◌, inl, inr, ℕ, ◌+◌, ◌<◌, List, length, Option, Some, None, refl, sym, subst, arith}
+use Rattle.std.specs.Prelude.{Bool, true, false, ◌&&◌, nat_eq, slice_index_or}
 use Rattle.std.specs.Option.{option_or}
 use Rattle.std.proofs.lemmas.Bool.{eq-eqb, eqb-true}
 use Rattle.guest_code.specs.Program.{Program}
@@ -9,10 +9,10 @@ use Rattle.causes.specs.declared.causes.Causes.{Causes}
 use Rattle.causes.specs.declared.event.Event.{Event}
 use Rattle.lint.specs.Uses.{is, local_set, variable_read, variable_used, variable_written}
 use Rattle.lint.specs.Paths.{is_test}
-use Rattle.causes.specs.Events.{is_end, is_use, reads, sets_local, uses_local, writes, written_by}
+use Rattle.causes.specs.Events.{is_end, reads, sets_local, uses_local, writes, written_by}
 use Rattle.causes.specs.Asked.{asks_for}
 use Rattle.causes.specs.Causes.{NoneOf, event_at}
-use Rattle.causes.specs.Needs.{Asks, FlowsFrom, InCause, IsDecidedBy, Misses, Needs, ReadsFrom, ReadsPast, ends, needed}
+use Rattle.causes.specs.Needs.{FlowsFrom, InCause, Needs, ends, needed}
 use Rattle.causes.specs.Told.{Tells}
 use Rattle.causes.specs.Touching.{passes_variable, touches, uses_own, uses_variable}
 use Rattle.causes.specs.Tests.{passes_write}

@@ -6,9 +6,8 @@ ghost use Rattle.guest_code.specs.declared.limits.TheConstants.{THREADS, LOCALS}
 ghost use Rattle.guest_code.specs.declared.program.Instruction.{Instruction};
 ghost use Rattle.guest_code.specs.Program.{Program, IsValid, IsValidCode};
 ghost use Rattle.semantics.specs.Ends.{is_stopped};
-ghost use Rattle.explain.specs.Blocked.{mutex_of};
 ghost use Rattle.explain.specs.declared.step.Step.{Step};
-ghost use Rattle.causes.specs.Course.{all_after, all_blocked, blocked_at, blocked_from, course, events_from, events_in, listed, local_events, locals_after, locals_with, opening_from, owner_for, row, stop_in_step, visible_event};
+ghost use Rattle.causes.specs.Course.{all_after, blocked_at, blocked_from, course, events_from, events_in, listed, local_events, locals_after, locals_with, opening_from, owner_for, row, stop_in_step, visible_event};
 ghost use Rattle.lint.specs.Uses.{local_set};
 ghost use Rattle.causes.specs.Events.{value_by};
 ghost use Rattle.causes.specs.inner.Running.{events_on, locals_on};

@@ -1,12 +1,11 @@
 -- What is printed of a search under a prefix of the schedules of a program.
-use Rattle.std.specs.Prelude.{◌≡◌, ◌⊎◌, ◌-◌, ℕ, List, ◌++◌, length, slice_get}
-use Rattle.std.specs.Prelude.{Option, Some, None, codes, string_bytes}
+use Rattle.std.specs.Prelude.{◌≡◌, ◌-◌, ℕ, List, ◌++◌, length, slice_get, Option, Some, None, codes}
+use Rattle.std.specs.Prelude.{string_bytes}
 use Rattle.std.specs.Option.{option_map_or}
 use Rattle.std.specs.List.{flat_map}
 use Rattle.guest_code.specs.Program.{Program}
 use Rattle.replay.specs.Spelling.{Spells}
 use Rattle.report.specs.declared.level.Level.{Level}
-use Rattle.report.specs.declared.options.Options.{Options}
 use Rattle.report.specs.declared.report.Cause.{Cause}
 use Rattle.report.specs.Texts.{IsProgramOf}
 use Rattle.parts.specs.declared.guest.GuestDigest.{GuestDigest}

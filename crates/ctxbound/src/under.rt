@@ -15,7 +15,7 @@ use guest_code::program::Program;
 use joining::last_mode;
 use parts::{GuestDigest, Part, part_line};
 use replay::schedule_from;
-use report::{Level, Options};
+use report::Level;
 use runner::explore_under;
 use std::alloc::{AllocError, Global};
 use std::sync::Arc;

@@ -5,7 +5,7 @@ ghost use Rattle.guest_code.specs.Program.{Program};
 ghost use Rattle.semantics.specs.Machine.{is_enabled, queue_of};
 ghost use Rattle.semantics.specs.Reachable.{IsOf, IsValidAction};
 ghost use Rattle.schedules.specs.Execution.{IsExecutionOf};
-ghost use Rattle.explain.specs.Steps.{IsTakenStep, held_in, lines_of, woken_in};
+ghost use Rattle.explain.specs.Steps.{IsTakenStep, held_in, woken_in};
 
 use crate::assignments::{Assignment, Passage, assignments_of};
 use crate::object::{Object, ObjectState};

@@ -1,10 +1,7 @@
 -- How many items of a list a schedule lies under.
-use Rattle.std.proofs.Common.{◌≡◌, ℕ, ◌+◌, ◌<◌, ◌≤◌, Bool, true, false, ◌||◌, List, [], ◌∷◌, ◌++◌}
-use Rattle.std.proofs.Common.{refl, arith}
-use Rattle.schedules.specs.Schedules.{begins_with}
+use Rattle.std.proofs.Common.{◌≡◌, ℕ, ◌+◌, ◌≤◌, Bool, true, false, List, [], ◌∷◌, ◌++◌, arith}
 use Rattle.semantics.specs.Mask.{one_if}
-use Rattle.items.specs.Items.{ItemView, covers, is_under}
-use Rattle.std.proofs.lemmas.List.Folds.{list_any-append}
+use Rattle.items.specs.Items.{ItemView, covers}
 
 pub at_most_one : (b : Bool) → one_if b ≤ 1
 at_most_one true = omega arith

@@ -1,14 +1,14 @@
 -- A single item as a walk: not begun, complete, one step further, and past its bound.
-use Rattle.std.proofs.Common.{◌≡◌, ℕ, ◌<◌, ◌≤◌, Bool, true, false, cond, nat_le, nat_lt, List, []}
-use Rattle.std.proofs.Common.{◌∷◌, ◌++◌, map, refl, ap, ◌∙◌, sym, subst, arith, IsPermutation}
-use Rattle.std.specs.List.{flat_map, Contains}
+use Rattle.std.proofs.Common.{◌≡◌, ℕ, ◌≤◌, true, false, cond, nat_le, nat_lt, [], ◌∷◌, ◌++◌, map}
+use Rattle.std.proofs.Common.{refl, ap, ◌∙◌, sym, subst, arith, IsPermutation}
+use Rattle.std.specs.List.{Contains}
 use Rattle.std.proofs.lemmas.Bool.Decides.{nat_tests}
 use Rattle.std.proofs.lemmas.List.{append-nil}
 use Rattle.std.proofs.lemmas.List.Elements.{All-nil, All-cons}
 use Rattle.std.proofs.lemmas.List.Sorted.{IsPermutation-refl}
 use Rattle.semantics.specs.Mask.{has}
 use Rattle.semantics.specs.Reachable.{IsOf}
-use Rattle.schedules.specs.Schedules.{preemptions, schedules_under}
+use Rattle.schedules.specs.Schedules.{preemptions}
 use Rattle.semantics.specs.Ends.{is_terminal}
 use Rattle.schedules.proofs.SleepSets.{reduced_schedules-terminal}
 use Rattle.schedules.proofs.UnfoldingUnderPrefix.{schedules_under-terminal}

@@ -1,8 +1,8 @@
 -- What a split keeps: at the start, where a walk is settled, and at the next bound; and what
 -- follows.
-use Rattle.std.proofs.Common.{◌≡◌, ◌⊎◌, inl, inr, ℕ, ◌+◌, ◌<◌, ◌≤◌, Bool, true, false, ◌||◌}
-use Rattle.std.proofs.Common.{nat_le, nat_lt, List, [], ◌∷◌, ◌++◌, get_or, refl, ap, ◌∙◌, sym}
-use Rattle.std.proofs.Common.{subst, arith, IsPermutation}
+use Rattle.std.proofs.Common.{◌≡◌, ◌⊎◌, inl, inr, ℕ, ◌+◌, ◌≤◌, Bool, true, false, ◌||◌, nat_le}
+use Rattle.std.proofs.Common.{nat_lt, List, [], ◌∷◌, ◌++◌, get_or, refl, ap, ◌∙◌, sym, subst, arith}
+use Rattle.std.proofs.Common.{IsPermutation}
 use Rattle.std.specs.List.{filter, flat_map, list_any, All, Contains}
 use Rattle.std.proofs.lemmas.Bool.Decides.{nat_tests}
 use Rattle.std.proofs.lemmas.Grind.{flat_map-append}
@@ -21,7 +21,6 @@ use Rattle.guest_code.specs.Program.{Program}
 use Rattle.schedules.specs.Schedules.{begins_with, preemptions, schedules_under}
 use Rattle.schedules.specs.Schedules.{schedules_within, exceeds_bound}
 use Rattle.schedules.proofs.SchedulesUnderPrefix.{begins_further, begins_itself, in_within}
-use Rattle.semantics.specs.Mask.{one_if}
 use Rattle.semantics.proofs.ListMembers.{contains_in, in_contains, from_filter}
 use Rattle.semantics.specs.Waiters.{In}
 use Rattle.items.specs.declared.mode.Mode.{Mode}
@@ -30,7 +29,7 @@ use Rattle.summary.specs.Summaries.{SummaryView, IsSummary, nothing, sum_of, joi
 use Rattle.summary.proofs.SumsJoin.{sum_of-append, sum_of_none, sum_of-beyond, sum_kept}
 use Rattle.summary.proofs.SumsJoin.{join_nothing, join_beyond}
 use Rattle.items.specs.Items.{ItemView, IsItem, root_of, schedules_of, everything, goes_beyond}
-use Rattle.items.specs.Items.{item_sum, item_sums, covers, is_under}
+use Rattle.items.specs.Items.{item_sum, item_sums, is_under}
 use Rattle.items.specs.Walks.{HasItsOf, HasAllPast, IsBelow, IsDeferred, IsCut, IsSplit, IsWithin}
 use Rattle.items.specs.Walks.{IsWalked, clear_of}
 use Rattle.items.specs.FullSums.{full_sum, full_sums}

@@ -11,7 +11,7 @@ ghost use Rattle.schedules.specs.Rising.{IsRising};
 ghost use Rattle.schedules.specs.Sleep.{is_kept, reduced_schedules, none_asleep};
 ghost use Rattle.items.specs.declared.mode.Mode.{Mode};
 ghost use Rattle.items.specs.declared.mode.Mode.TheVariants.{Bounded, Reduced};
-ghost use Rattle.summary.specs.Summaries.{cut, greatest_count, nothing, sum_of, join, with_beyond};
+ghost use Rattle.summary.specs.Summaries.{cut, greatest_count, sum_of, join, with_beyond};
 ghost use Rattle.items.specs.Items.{ItemView, IsItem, IsScheduleOf, state_of, root_of, schedules_of, goes_beyond, item_sum, item_sums, schedule_count, is_under};
 ghost use Rattle.items.specs.Walks.{WalkView, IsWalked, IsBelow, IsDeferred, HasAllPast, tried_by};
 ghost use Rattle.items.specs.FullSums.{full_sum, full_sums};

@@ -1,6 +1,6 @@
 -- What a search under a prefix finds is honest.
-use Rattle.std.proofs.Common.{◌≡◌, ◌⊎◌, inl, inr, ℕ, ◌+◌, Bool, true, false, List, [], ◌∷◌, ◌++◌}
-use Rattle.std.proofs.Common.{refl, ap, ◌∙◌, sym, subst, Option, Some, None}
+use Rattle.std.proofs.Common.{◌≡◌, ◌⊎◌, inl, inr, ℕ, ◌+◌, Bool, true, false, List, [], ◌∷◌, refl}
+use Rattle.std.proofs.Common.{ap, ◌∙◌, sym, subst, Option, None}
 use Rattle.std.specs.List.{Contains, filter}
 use Rattle.std.proofs.lemmas.List.Elements.{Contains-push_cases}
 use Rattle.guest_code.specs.Program.{Program}
@@ -9,7 +9,7 @@ use Rattle.semantics.specs.Waiters.{In}
 use Rattle.semantics.proofs.ListMembers.{contains_in, in_filter}
 use Rattle.schedules.specs.Schedules.{begins_with, complete_schedules, schedules_under}
 use Rattle.schedules.proofs.ReducedSchedules.{in_red}
-use Rattle.summary.specs.Summaries.{SummaryView, nothing, sum_of, with_beyond}
+use Rattle.summary.specs.Summaries.{sum_of, with_beyond}
 use Rattle.summary.proofs.SumsJoin.{sum_of_none}
 use Rattle.items.specs.declared.mode.Mode.{Mode}
 use Rattle.items.specs.declared.mode.Mode.TheVariants.{Bounded, Reduced}
@@ -21,8 +21,7 @@ use Rattle.cover.specs.Under.{IsUnder, HasNoneUnder}
 use Rattle.report.specs.declared.level.Level.{Level}
 use Rattle.report.specs.declared.options.Search.{Search}
 use Rattle.report.specs.declared.options.Search.TheVariants.{UpTo, Unbounded}
-use Rattle.report.specs.declared.report.Cause.{Cause}
-use Rattle.runner.specs.Levels.{IsModeOf, IsPassedLevel, ArePassedFrom, AreBelow, AreLevels, IsLastSum}
+use Rattle.runner.specs.Levels.{IsModeOf, ArePassedFrom, AreBelow, AreLevels, IsLastSum}
 use Rattle.parts.specs.declared.part.Part.{Part}
 use Rattle.joining.specs.Parts.{mode_at, last_mode, IsHonest}
 use Rattle.joining.specs.Found.{AreLevelsUnder, IsFound, empty_level}

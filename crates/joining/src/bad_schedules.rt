@@ -3,7 +3,7 @@
 ghost use Rattle.std.specs.Prelude.{◌≡◌, true, false, All, IfOk, IfErr, OnOk};
 ghost use Rattle.std.specs.Bool.{Decides};
 ghost use Rattle.report.specs.declared.options.Search.{Search};
-ghost use Rattle.joining.specs.Parts.{IsTrue, IsTrueOf, JoinErrorMeans};
+ghost use Rattle.joining.specs.Parts.{IsTrue, JoinErrorMeans};
 ghost use Rattle.joining.specs.inner.Runs.{is_bad_run, is_within_bound};
 ghost use Rattle.joining.specs.declared.error.JoinError.TheVariants.{OutOfMemory};
 

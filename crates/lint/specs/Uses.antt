@@ -1,5 +1,5 @@
 -- What an instruction does with locals and with objects.
-use Rattle.std.specs.Prelude.{ℕ, Bool, true, false, ◌||◌, ◌&&◌, not, nat_eq, Option, Some, None}
+use Rattle.std.specs.Prelude.{ℕ, Bool, false, ◌||◌, ◌&&◌, not, nat_eq, Option, Some, None}
 use Rattle.std.specs.Option.{option_or}
 use Rattle.guest_code.specs.declared.program.Value.{Value}
 use Rattle.guest_code.specs.declared.program.Value.TheVariants.{Local, Literal}

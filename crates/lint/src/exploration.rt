@@ -4,7 +4,6 @@
 ghost use Rattle.std.specs.Prelude.{◌<◌, ◌≡◌, length, IfOk, IfSome, OnOk, IsTrue};
 ghost use Rattle.semantics.specs.Machine.{is_enabled};
 ghost use Rattle.semantics.specs.Reachable.{IsOf, IsValidAction};
-ghost use Rattle.semantics.specs.Turns.{IsAccessBelow};
 ghost use Rattle.guest_code.specs.Program.{Program, IsValidCode};
 ghost use Rattle.lint.specs.inner.Frames.{TakesBack, IsExploration};
 

@@ -1,6 +1,5 @@
 //! What the schedules explored so far show of a program: of its assertions, `signal`s and loops.
 
-ghost use Rattle.std.specs.Prelude.{◌<◌};
 ghost use Rattle.guest_code.specs.Program.{Program, IsValidCode};
 
 use crate::spin::Spin;

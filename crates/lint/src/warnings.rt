@@ -1,6 +1,6 @@
 //! All warnings of a program.
 
-ghost use Rattle.std.specs.Prelude.{◌≡◌, ◌<◌, IfOk, All};
+ghost use Rattle.std.specs.Prelude.{◌≡◌, IfOk};
 ghost use Rattle.lint.specs.Warnings.{Chosen, Listed, kinds_of, subject_of, count_of};
 
 use crate::warning::{Warning, WarningKind};

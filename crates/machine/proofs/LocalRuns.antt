@@ -18,8 +18,8 @@ use Rattle.semantics.specs.declared.state.VariableAction.{VariableAction}
 use Rattle.semantics.specs.declared.state.VariableAction.TheVariants.{Load as Loads, Store as Stores, Add as Adds, Cas as Swaps}
 use Rattle.semantics.specs.declared.state.Thread.{Thread}
 use Rattle.semantics.specs.declared.state.Status.{Status}
-use Rattle.semantics.specs.declared.state.Status.TheVariants.{Running, Waiting, Woken, Ended, Stopped}
-use Rattle.semantics.specs.Machine.{Snapshot, thread_at, value_of_operand, var_after, reader_after, is_expected, one_or_zero, resumed, with_status, with_local, advance, local_run, run_from, value_of_expression, is_zero}
+use Rattle.semantics.specs.declared.state.Status.TheVariants.{Running, Stopped}
+use Rattle.semantics.specs.Machine.{Snapshot, thread_at, value_of_operand, var_after, reader_after, is_expected, one_or_zero, with_status, with_local, advance, local_run, run_from, value_of_expression, is_zero}
 use Rattle.semantics.specs.Expressions.{of_both}
 use Rattle.machine.specs.declared.control.Control.{Control}
 use Rattle.semantics.specs.declared.local.Landing.{Landing}

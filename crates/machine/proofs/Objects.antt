@@ -4,10 +4,9 @@ use Rattle.std.specs.Prelude.{if◌then◌else◌}
 use Rattle.std.proofs.lemmas.Bool.Decides.{nat_tests}
 use Rattle.guest_code.specs.Program.{Program, code_of}
 use Rattle.guest_code.specs.declared.program.Instruction.{Instruction}
-use Rattle.guest_code.specs.declared.program.Instruction.TheVariants.{Wait}
 use Rattle.semantics.specs.declared.mask.Mask.{Mask}
 use Rattle.semantics.specs.declared.state.Status.{Status}
-use Rattle.semantics.specs.declared.state.Status.TheVariants.{Running, Waiting, Woken, Ended, Stopped}
+use Rattle.semantics.specs.declared.state.Status.TheVariants.{Ended, Stopped}
 use Rattle.semantics.specs.declared.state.MutexAction.{MutexAction}
 use Rattle.semantics.specs.declared.state.MutexAction.TheVariants.{Lock as Locks, Unlock as Unlocks, Retake as Retakes}
 use Rattle.semantics.specs.declared.state.SemaphoreAction.TheVariants.{Acquire as Acquires, Release as Releases}
@@ -18,7 +17,7 @@ use Rattle.semantics.specs.Mask.{has}
 use Rattle.semantics.specs.Ends.{is_stopped, is_ended}
 use Rattle.machine.specs.declared.control.Control.{Control}
 use Rattle.machine.specs.declared.control.TheConstants.{FREE}
-use Rattle.machine.specs.Refinement.{takes_mutex, takes_semaphore, is_woken, at_mutex, at_semaphore, held, thread_or_none, HasObjects, HasThreadAt, IsControl}
+use Rattle.machine.specs.Refinement.{takes_mutex, takes_semaphore, at_mutex, at_semaphore, held, thread_or_none, HasObjects, HasThreadAt, IsControl}
 use Rattle.machine.specs.inner.Parts.{IsControlBut, IsLeaving, IsTaking}
 use Rattle.machine.proofs.Lists.{by_place, same_set, set_has, set_there, test_set}
 

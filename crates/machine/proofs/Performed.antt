@@ -1,5 +1,5 @@
 -- What each statement's step makes of a state, but for what its thread does itself after it.
-use Rattle.std.proofs.Common.{◌≡◌, ◌≢◌, ℕ, ℤ, ◌+◌, ◌-◌, ◌<◌, ◌≤◌, true, false, Bool, cond, not, ◌⊎◌, nat_eq, List, [], ◌∷◌, ◌++◌, length, take, drop, pos, Option, Some, None, get_or, set, refl, ap, ◌∙◌, sym, subst, arith, get_or-set_same, get_or-set_other, length-set, inl, inr}
+use Rattle.std.proofs.Common.{◌≡◌, ◌≢◌, ℕ, ℤ, ◌+◌, ◌-◌, ◌<◌, ◌≤◌, true, false, Bool, cond, ◌⊎◌, nat_eq, List, [], ◌∷◌, ◌++◌, length, take, drop, pos, Option, Some, None, get_or, set, refl, ap, ◌∙◌, sym, subst, arith, get_or-set_same, get_or-set_other, length-set, inl, inr}
 use Rattle.std.specs.Prelude.{if◌then◌else◌}
 use Rattle.std.proofs.lemmas.Bool.{cases_lt, cases_order}
 use Rattle.std.proofs.lemmas.Bool.Decides.{nat_tests}
@@ -21,13 +21,12 @@ use Rattle.semantics.specs.declared.state.SemaphoreAction.TheVariants.{Acquire a
 use Rattle.semantics.specs.declared.state.Action.{Action}
 use Rattle.semantics.specs.declared.state.Action.TheVariants.{OnVariable, OnMutex, Wait as Waits, OnCondition, OnSemaphore}
 use Rattle.semantics.specs.Machine.{Snapshot, thread_at, owner_of, queue_of, count_of, value_of, action_of, missing_thread, next_of, var_after, reader_after, acts, owns, is_full, resumed, with_status, wake, woken, woken_status}
-use Rattle.semantics.specs.Ends.{is_stopped, is_ended}
 use Rattle.semantics.specs.Waiters.{In, Once}
 use Rattle.semantics.proofs.StepsKeepStates.{room_in_queue}
 use Rattle.machine.specs.declared.control.Control.{Control}
 use Rattle.machine.specs.declared.control.TheConstants.{FREE}
 use Rattle.semantics.specs.declared.local.Landing.{Landing}
-use Rattle.machine.specs.Refinement.{queued, thread_or_none, takes_mutex, takes_semaphore, is_woken, HasThreadAt}
+use Rattle.machine.specs.Refinement.{queued, thread_or_none, takes_mutex, takes_semaphore}
 use Rattle.semantics.specs.Turns.{own_thread, IsAccessBelow}
 use Rattle.machine.specs.inner.Parts.{IsControlBut}
 use Rattle.machine.specs.inner.Steps.{AreShared, HasShared, IsPoised, IsPerformed, IsCalling, settled}

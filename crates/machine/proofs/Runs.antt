@@ -1,6 +1,5 @@
 -- A run of a thread: what one more step makes of it.
-use Rattle.std.proofs.Common.{◌≡◌, ◌≢◌, ℕ, ℤ, ◌+◌, ◌<◌, ◌≤◌, ◌*◌, ◌-◌, Bool, true, false, cond, List, [], ◌∷◌, length, take, replicate, slice_get, Some, get_or, set, refl, ap, ◌∙◌, sym, subst, arith, ◌⊎◌, inl, inr, get_or-set_same, get_or-set_other, drop}
-use Rattle.std.proofs.Math.Path.{transport}
+use Rattle.std.proofs.Common.{◌≡◌, ◌≢◌, ℕ, ℤ, ◌+◌, ◌<◌, ◌≤◌, ◌*◌, ◌-◌, Bool, true, false, cond, List, ◌∷◌, length, take, replicate, slice_get, Some, get_or, refl, ap, ◌∙◌, sym, subst, arith, inl, inr, get_or-set_same, get_or-set_other, drop}
 use Rattle.std.proofs.lemmas.Bool.{cases_order, cases_lt}
 use Rattle.std.proofs.lemmas.List.{replicate_more, drop_more, drop_all, get_or_default}
 use Rattle.machine.proofs.Lists.{read_at}
@@ -11,8 +10,7 @@ use Rattle.guest_code.specs.Program.{Program, code_of, IsValid, IsValidCode, Loc
 use Rattle.semantics.specs.declared.mask.Mask.{Mask}
 use Rattle.semantics.specs.declared.state.Thread.{Thread}
 use Rattle.semantics.specs.declared.state.Status.{Status}
-use Rattle.semantics.specs.declared.state.Status.TheVariants.{Running, Waiting, Woken, Ended, Stopped}
-use Rattle.semantics.specs.declared.state.Action.{Action}
+use Rattle.semantics.specs.declared.state.Status.TheVariants.{Running}
 use Rattle.semantics.specs.Machine.{Snapshot, step, is_enabled, thread_at, next_of, can_do, action_of, action_at, local_run, run_from, missing_thread}
 use Rattle.semantics.specs.Mask.{has, HasEnabled}
 use Rattle.semantics.specs.Reachable.{IsOf}

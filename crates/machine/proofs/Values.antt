@@ -8,8 +8,7 @@ use Rattle.std.proofs.Math.Seq.{drop-append_seam}
 use Rattle.std.proofs.lemmas.List.{drop-take, length-append, length-drop, length-take, length-take-le, take-take, take-append-le, get_or-take, get_or_append_left}
 use Rattle.std.proofs.lemmas.Slice.{take-put_mid_below, drop-put_mid, between-put_mid}
 use Rattle.guest_code.specs.Program.{Program, LocalsBelow, code_of, no_thread}
-use Rattle.semantics.specs.Machine.{Snapshot, thread_at, is_enabled, step}
-use Rattle.semantics.specs.Reachable.{IsOf}
+use Rattle.semantics.specs.Machine.{Snapshot, thread_at, is_enabled}
 use Rattle.semantics.proofs.WorkFalls.{enabled_below}
 use Rattle.machine.specs.declared.control.Control.{Control}
 use Rattle.machine.specs.Refinement.{IsState, AreQueues, queued, locals_at}

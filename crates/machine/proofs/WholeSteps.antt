@@ -6,7 +6,7 @@ use Rattle.guest_code.specs.Program.{Program, code_of, IsValid, LocalsBelow}
 use Rattle.guest_code.specs.declared.program.Instruction.{Instruction}
 use Rattle.semantics.specs.declared.state.Thread.{Thread}
 use Rattle.semantics.specs.declared.state.Status.{Status}
-use Rattle.semantics.specs.declared.state.Status.TheVariants.{Running, Waiting, Woken, Ended, Stopped}
+use Rattle.semantics.specs.declared.state.Status.TheVariants.{Running, Woken}
 use Rattle.semantics.specs.Machine.{Snapshot, thread_at, next_of, is_enabled, can_do, action_of, action_at, retake_of, step, missing_thread}
 use Rattle.semantics.specs.Mask.{has}
 use Rattle.semantics.proofs.WorkFalls.{enabled_below}

@@ -1,7 +1,5 @@
 //! Searches of which a gate keeps a worker waiting, and one by one worker that ends at its limit.
 
-ghost use Rattle.std.specs.Prelude.{◌≤◌};
-
 use guest_code::lowering::lower;
 use guest_code::program::Program;
 use guest_syntax::parse;

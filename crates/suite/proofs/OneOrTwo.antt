@@ -1,5 +1,5 @@
 -- What one search, or two, show of a text.
-use Rattle.std.proofs.Common.{◌≡◌, ℕ, List, Bool, true, false, refl, arith, inl, inr}
+use Rattle.std.proofs.Common.{◌≡◌, ℕ, List, true, false, refl, arith, inl, inr}
 use Rattle.guest_code.specs.Program.{Program}
 use Rattle.report.specs.declared.options.Search.TheVariants.{UpTo, Unbounded}
 use Rattle.report.specs.Texts.{IsProgramOf}

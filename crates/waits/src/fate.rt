@@ -1,8 +1,8 @@
 //! What came of each instruction of a thread in a schedule: carried out, still ahead, or neither.
 
-ghost use Rattle.std.specs.Prelude.{◌≡◌, ◌≤◌, ◌<◌, ◌+◌, ◌^◌, ◌↔◌, nat_lt, ℕ, ℤ, List, IsTrue, length, IfOk};
+ghost use Rattle.std.specs.Prelude.{◌≡◌, ◌<◌, ◌+◌, ◌^◌, ◌↔◌, nat_lt, ℕ, ℤ, List, IsTrue, length, IfOk};
 ghost use Rattle.guest_code.specs.declared.program.Instruction.{Instruction};
-ghost use Rattle.guest_code.specs.Program.{Program, JumpsWithin, IsValidCode, code_of};
+ghost use Rattle.guest_code.specs.Program.{Program, JumpsWithin, IsValidCode};
 ghost use Rattle.explain.specs.declared.step.Step.{Step};
 ghost use Rattle.waits.specs.Fates.{Fates, is_to_come, locals_of, place_of};
 ghost use Rattle.waits.specs.Waiting.{AllFates};

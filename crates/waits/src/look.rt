@@ -2,7 +2,6 @@
 
 ghost use Rattle.std.specs.Prelude.{◌≡◌, ◌≤◌, ◌<◌, pos, IfOk, IfSome, length, slice_get, slice_index_or, slice_set};
 ghost use Rattle.guest_code.specs.Program.{Program, IsValidCode};
-ghost use Rattle.waits.specs.Fates.{locals_of};
 ghost use Rattle.waits.specs.Looks.{IsLook, IsLookOf, is_wait, load_of, resumed_at};
 ghost use Rattle.waits.specs.Endings.{writes_one};
 

@@ -4,7 +4,7 @@ ghost use Rattle.std.specs.Prelude.{◌≡◌, ◌+◌, ◌<◌, ◌≤◌, [], 
 ghost use Rattle.std.specs.Arc.{arc_value};
 ghost use Rattle.summary.specs.Summaries.{nothing, greatest_count};
 ghost use Rattle.items.specs.Walks.{IsWalked, IsPastBound, walk_past_bound};
-ghost use Rattle.walk.specs.Founds.{HasAdded, found_walk};
+ghost use Rattle.walk.specs.Founds.{HasAdded};
 
 use crate::found::Found;
 use crate::path::Path;

@@ -1,6 +1,6 @@
 //! Books that are known to be of one search, by their type.
 
-ghost use Rattle.std.specs.Prelude.{◌≡◌, ◌≤◌, ◌-◌, ◌⊎◌, ◌↔◌, [], OnOk, OnErr, IsTrue, length, drop};
+ghost use Rattle.std.specs.Prelude.{◌≡◌, ◌-◌, ◌⊎◌, ◌↔◌, [], OnOk, OnErr, IsTrue, length, drop};
 ghost use Rattle.items.specs.Items.{AreOf};
 ghost use Rattle.book.specs.declared.limits.TheConstants.{ROUND};
 ghost use Rattle.book.specs.Books.{HaveFound, HaveSettled, AreNotTaken, thinned};

@@ -1,6 +1,6 @@
 //! Workers that share rounds, each in a thread of its own.
 
-ghost use Rattle.std.specs.Prelude.{◌≡◌, ◌<◌, ◌≤◌, ◌↔◌, ℕ, [], true, false, vec_len, Some, None, OnOk, IfSome, IfNone, IsTrue};
+ghost use Rattle.std.specs.Prelude.{◌≡◌, ◌<◌, ◌↔◌, ℕ, [], true, false, vec_len, Some, None, OnOk, IfSome, IfNone, IsTrue};
 ghost use Rattle.std.specs.List.{All, Any};
 ghost use Rattle.workers.specs.declared.limits.TheConstants.{KEPT_WALKS};
 ghost use Rattle.workers.specs.declared.exit.Exit.TheVariants.{Finished, Stopped, OutOfMemory};

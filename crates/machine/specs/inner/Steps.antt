@@ -5,7 +5,7 @@ use Rattle.guest_code.specs.Program.{Program, code_of, IsValid, LocalsBelow}
 use Rattle.guest_code.specs.declared.program.Instruction.{Instruction}
 use Rattle.semantics.specs.declared.state.Thread.{Thread}
 use Rattle.semantics.specs.declared.state.Status.{Status}
-use Rattle.semantics.specs.declared.state.Status.TheVariants.{Running, Waiting, Woken, Ended, Stopped}
+use Rattle.semantics.specs.declared.state.Status.TheVariants.{Running, Waiting}
 use Rattle.semantics.specs.Machine.{Snapshot, thread_at, queue_of, next_of, is_enabled, can_do, action_of, step, resumed, run_from, with_status, wake, missing_thread}
 use Rattle.semantics.specs.Reachable.{IsOf}
 use Rattle.semantics.specs.Waiters.{In, Once}

@@ -7,7 +7,7 @@ ghost use Rattle.guest_code.specs.Program.{Program, IsValid, IsValidCode, IsWell
 ghost use Rattle.guest_code.specs.declared.program.Instruction.{Instruction};
 ghost use Rattle.guest_code.specs.declared.program.Instruction.TheVariants.{Unlock, Wait, Signal, Broadcast, Release};
 ghost use Rattle.semantics.specs.declared.state.VariableAction.{VariableAction};
-ghost use Rattle.semantics.specs.declared.state.Status.TheVariants.{Running, Woken};
+ghost use Rattle.semantics.specs.declared.state.Status.TheVariants.{Running};
 ghost use Rattle.semantics.specs.declared.state.Action.TheVariants.{OnVariable};
 ghost use Rattle.semantics.specs.Machine.{Snapshot, thread_at, action_of, can_do, is_enabled, next_of, retake_of};
 ghost use Rattle.semantics.specs.Reachable.{IsOf};

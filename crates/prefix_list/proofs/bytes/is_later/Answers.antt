@@ -1,4 +1,4 @@
-use Rattle.std.proofs.Common.{length, nat_lt, get_or, sym, ◌∙◌, arith}
+use Rattle.std.proofs.Common.{nat_lt, get_or, sym, ◌∙◌, arith}
 use Rattle.prefix_list.proofs.Later.{later_at, never_later, never_past}
 use Rattle.prefix_list.proofs.bytes.is_later.Goals as goal
 

@@ -1,10 +1,10 @@
-use Rattle.std.proofs.Common.{arith, true, false, ◌≡◌, ◌<◌, ◌∙◌, ◌*◌, ◌+◌, ◌-◌, cond, sym, subst, ap, refl, length, List, rules}
+use Rattle.std.proofs.Common.{arith, true, false, ◌≡◌, ◌∙◌, sym, subst, ap, refl, length, List, rules}
 use Rattle.std.proofs.lemmas.Bool.{and_left, and_parts}
 use Rattle.guest_code.specs.declared.program.Instruction.{Instruction}
 use Rattle.guest_code.specs.declared.program.Instruction.TheVariants.{Load}
 use Rattle.guest_code.specs.Program.{code_of}
 use Rattle.semantics.proofs.WorkFalls.{enabled_below}
-use Rattle.machine.specs.inner.Runs.{run_to, IsGoing, IsRunTo}
+use Rattle.machine.specs.inner.Runs.{run_to, IsGoing}
 use Rattle.machine.specs.inner.Steps.{going_on}
 use Rattle.machine.proofs.Landings.{arrived}
 use Rattle.machine.proofs.LocalRuns.{lands_there}

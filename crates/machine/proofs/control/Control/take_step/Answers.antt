@@ -1,7 +1,6 @@
-use Rattle.std.proofs.Common.{arith, ◌∙◌, sym, subst}
+use Rattle.std.proofs.Common.{arith, ◌∙◌, sym}
 use Rattle.guest_code.specs.Program.{IsValidCode, code_of, no_thread}
 use Rattle.semantics.proofs.WorkFalls.{enabled_below}
-use Rattle.machine.specs.inner.Steps.{IsReadyIn}
 use Rattle.machine.proofs.WholeSteps.{poised_at, retakes_at, valid_at}
 use Rattle.machine.proofs.control.Control.take_step.Goals as goal
 

@@ -1,4 +1,4 @@
-use Rattle.std.proofs.Common.{arith, sym, refl}
+use Rattle.std.proofs.Common.{arith, refl}
 use Rattle.guest_code.specs.declared.program.Instruction.TheVariants.{Load}
 use Rattle.machine.specs.inner.Runs.{run_to}
 use Rattle.machine.proofs.Runs.{poised_going, going_further}

@@ -1,4 +1,4 @@
-use Rattle.std.proofs.Common.{rules, ◌≡◌, ◌+◌, ◌≤◌, refl, ap, ◌∙◌, arith, length, drop, false, inl, vec_len, vec_capacity}
+use Rattle.std.proofs.Common.{rules, ◌≡◌, ◌+◌, ◌≤◌, refl, ap, ◌∙◌, arith, length, false, inl, vec_len, vec_capacity}
 use Rattle.prefix_list.specs.inner.Packed.{listed}
 use Rattle.prefix_list.proofs.PackedPrefixes.{if_ok, listed_none}
 use Rattle.prefix_list.proofs.ListFields.{with_room}

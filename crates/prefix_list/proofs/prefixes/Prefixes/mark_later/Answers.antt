@@ -1,9 +1,9 @@
-use Rattle.std.proofs.Common.{rules, ◌≡◌, ◌<◌, ◌≤◌, ◌-◌, ◌+◌, ℕ, true, false, List, [], ◌∷◌, ◌++◌, filter, not, length, take, drop, set, get_or, refl, sym, ◌∙◌, ap, subst, arith, length-drop, vec_capacity, inl, inr}
+use Rattle.std.proofs.Common.{◌≡◌, ◌<◌, ◌-◌, ◌+◌, ℕ, true, false, List, [], ◌∷◌, ◌++◌, filter, not, length, take, drop, set, get_or, refl, sym, ◌∙◌, ap, subst, arith, length-drop, vec_capacity, inl, inr}
 use Rattle.std.proofs.lemmas.List.{take_rest, get_or-drop, length-set}
-use Rattle.prefix_list.specs.inner.Packed.{IsStack, first_by, before, removed_of, listed, dropped_of, start_of, end_of}
+use Rattle.prefix_list.specs.inner.Packed.{first_by, before, removed_of, listed, dropped_of, start_of, end_of}
 use Rattle.prefix_list.specs.PrefixLists.{common_length, is_later, last_of}
 use Rattle.prefix_list.proofs.ListFields.{stack_of, some_in, counted_few}
-use Rattle.prefix_list.proofs.Marking.{Marks, Marked, marks_start, marks_end, marks_within, marks_some, marks_fit, marks_few, marks_past, marks_flip, set_above, get_or_any}
+use Rattle.prefix_list.proofs.Marking.{Marks, marks_start, marks_end, marks_within, marks_some, marks_fit, marks_few, marks_past, marks_flip, set_above, get_or_any}
 use Rattle.prefix_list.specs.declared.prefixes.Prefixes.TheInside.{Inside}
 use Rattle.prefix_list.proofs.prefixes.Prefixes.mark_later.Goals as goal
 use Rattle.prefix_list.proofs.prefixes.Prefixes.mark_later.Goals.{then-not-seeker+then-is_later, else-not-seeker, else-not-seeker-via-then-not-seeker+else-is_later, else-not-seeker-via-else-not-seeker}

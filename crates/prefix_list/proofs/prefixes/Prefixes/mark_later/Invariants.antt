@@ -1,4 +1,4 @@
-use Rattle.std.proofs.Common.{◌≡◌, ℕ, take, drop, length, vec_capacity}
+use Rattle.std.proofs.Common.{◌≡◌, take, drop, length, vec_capacity}
 use Rattle.prefix_list.proofs.Marking.{Marks}
 use Rattle.prefix_list.proofs.prefixes.Prefixes.mark_later.Given as goal
 

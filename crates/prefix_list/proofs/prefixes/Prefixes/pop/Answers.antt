@@ -1,6 +1,6 @@
-use Rattle.std.proofs.Common.{rules, ◌≡◌, ◌<◌, ◌-◌, true, false, cond, length, take, drop, refl, sym, ◌∙◌, ap, subst, arith, vec_capacity}
+use Rattle.std.proofs.Common.{rules, ◌≡◌, ◌-◌, true, false, cond, take, drop, refl, sym, ◌∙◌, ap, arith, vec_capacity}
 use Rattle.std.proofs.lemmas.List.{take_rest}
-use Rattle.prefix_list.specs.inner.Packed.{before, removed_of, IsPacked, IsCounted}
+use Rattle.prefix_list.specs.inner.Packed.{removed_of}
 use Rattle.prefix_list.proofs.PackedPrefixes.{went_well, packed_before, packed_pop, packed_more, CameOff, stands_some, stands_on, stands_last, counts_back}
 use Rattle.prefix_list.proofs.ListFields.{came, gone_of}
 use Rattle.prefix_list.proofs.prefixes.Prefixes.pop.Goals as goal

@@ -1,4 +1,4 @@
-use Rattle.std.proofs.Common.{◌≡◌, ◌≤◌, take, drop, length, vec_capacity}
+use Rattle.std.proofs.Common.{◌≤◌, take, drop, length, vec_capacity}
 use Rattle.prefix_list.specs.inner.Packed.{IsCounted}
 use Rattle.prefix_list.proofs.PackedPrefixes.{Stands}
 use Rattle.prefix_list.proofs.prefixes.Prefixes.pop.Given as goal

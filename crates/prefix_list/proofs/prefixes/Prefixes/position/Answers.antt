@@ -1,5 +1,5 @@
-use Rattle.std.proofs.Common.{rules, ◌≡◌, ◌<◌, ◌-◌, length, take, drop, ◌∙◌, true, false, ap, sym, subst, refl, arith, vec_capacity, inl, inr}
-use Rattle.prefix_list.proofs.PackedPrefixes.{StepsBack, seek_found, seek_on, seek_end, stands_within, before_fits, Seeks}
+use Rattle.std.proofs.Common.{rules, ◌≡◌, true, false, subst, refl, arith, inl, inr}
+use Rattle.prefix_list.proofs.PackedPrefixes.{seek_found, seek_on, seek_end, stands_within, before_fits, Seeks}
 use Rattle.prefix_list.proofs.prefixes.Prefixes.position.Goals as goal
 use Rattle.prefix_list.proofs.prefixes.Prefixes.position.Goals.{then-not-seeker+else-has_found, else-not-seeker}
 

@@ -1,4 +1,4 @@
-use Rattle.std.proofs.Common.{◌≡◌, ◌≤◌, drop, take, length}
+use Rattle.std.proofs.Common.{◌≤◌, take, length}
 use Rattle.prefix_list.proofs.PackedPrefixes.{Seeks}
 use Rattle.prefix_list.proofs.prefixes.Prefixes.position.Given as goal
 

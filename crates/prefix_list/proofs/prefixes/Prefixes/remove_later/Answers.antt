@@ -1,4 +1,4 @@
-use Rattle.std.proofs.Common.{◌≡◌, ◌<◌, ◌≤◌, ◌+◌, ◌-◌, ℕ, Bool, true, false, cond, List, [], ◌∷◌, ◌++◌, filter, count_by, not, length, take, refl, sym, ◌∙◌, ap, subst, arith, length-append}
+use Rattle.std.proofs.Common.{◌≡◌, ◌<◌, ◌-◌, true, false, [], ◌∷◌, filter, not, length, take, sym, ◌∙◌, ap, arith, length-append}
 use Rattle.prefix_list.specs.PrefixLists.{is_later, last_of}
 use Rattle.prefix_list.proofs.Later.{last_too, last_same, left_and_dropped}
 use Rattle.prefix_list.proofs.ListFields.{last_in, some_in}

@@ -1,7 +1,7 @@
 use Rattle.std.proofs.Common.{rules, ◌≡◌, ℕ, ◌+◌, ◌-◌, ◌<◌, ◌≤◌, false, List, ◌++◌, length, take, drop, refl, ◌∙◌, ap, subst, arith, length-take, length-drop, inl, vec_len, vec_capacity}
 use Rattle.std.proofs.lemmas.List.{take_rest}
 use Rattle.prefix_list.specs.inner.Packed.{IsStack, AreWaysOn, listed}
-use Rattle.prefix_list.proofs.PackedPrefixes.{if_ok, length_listed, listed_none, Holds, held_more, held_count}
+use Rattle.prefix_list.proofs.PackedPrefixes.{if_ok, listed_none, Holds, held_more}
 use Rattle.prefix_list.proofs.ListFields.{stack_of, with_room, count_in}
 use Rattle.prefix_list.proofs.GoingBack.{SplitAt, split_at, AllStay, all_stay, one_left, kept, moved}
 use Rattle.prefix_list.proofs.prefixes.Prefixes.split_last_some.Goals as goal

@@ -1,5 +1,5 @@
-use Rattle.std.proofs.Common.{rules, ◌≡◌, ◌<◌, ◌-◌, true, false, length, ap, sym, ◌∙◌, arith, vec_capacity}
-use Rattle.prefix_list.specs.inner.Packed.{before, removed_of}
+use Rattle.std.proofs.Common.{rules, ◌≡◌, true, false, sym, ◌∙◌, arith, vec_capacity}
+use Rattle.prefix_list.specs.inner.Packed.{before}
 use Rattle.prefix_list.proofs.PackedPrefixes.{went_well, packed_before, packed_pop, packed_more, stands_some, stands_on, stands_last}
 use Rattle.prefix_list.proofs.prefixes.Rev.advance.Goals as goal
 

@@ -1,4 +1,4 @@
-use Rattle.std.proofs.Common.{◌≡◌, ◌∙◌, take, arith}
+use Rattle.std.proofs.Common.{◌∙◌, take, arith}
 use Rattle.prefix_list.proofs.CommonSteps.{kept_before, past_before, next_kept, next_past}
 use Rattle.prefix_list.proofs.seeker.Seeker.at_previous.Goals as goal
 

@@ -1,4 +1,4 @@
-use Rattle.std.proofs.Common.{◌≡◌, ◌<◌, nat_lt, List, ℕ, length, get_or, sym, ap, ◌∙◌, arith}
+use Rattle.std.proofs.Common.{◌≡◌, nat_lt, get_or, sym, ap, ◌∙◌, arith}
 use Rattle.prefix_list.specs.PrefixLists.{common_length}
 use Rattle.prefix_list.proofs.Later.{common_short, later_at, never_later, never_past, common_turned}
 use Rattle.prefix_list.proofs.seeker.Seeker.is_later.Goals as goal

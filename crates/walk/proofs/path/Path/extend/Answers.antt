@@ -1,5 +1,5 @@
 use Rattle.std.proofs.Common.{◌≡◌, arith, ◌+◌, ◌∙◌, ◌<◌, ◌≤◌, ◌++◌, ◌&&◌, ℕ, Bool, true, false}
-use Rattle.std.proofs.Common.{List, replicate, refl, ap, sym}
+use Rattle.std.proofs.Common.{List, replicate, refl, ap}
 use Rattle.semantics.specs.Machine.{is_enabled}
 use Rattle.semantics.specs.Mask.{HasEnabled, one_if}
 use Rattle.schedules.specs.Schedules.{preempts}

@@ -1,16 +1,10 @@
-use Rattle.std.proofs.Common.{◌≡◌, ◌<◌, ◌≤◌, ◌+◌, ◌-◌, ◌++◌, ◌∷◌, ◌∙◌, [], ℕ, List, Bool, true}
-use Rattle.std.proofs.Common.{false, length, take}
-use Rattle.std.proofs.Common.{map, refl, ap, sym, subst, arith, rules}
+use Rattle.std.proofs.Common.{◌≡◌, ◌<◌, ◌≤◌, ◌+◌, ◌++◌, ◌∷◌, ◌∙◌, [], ℕ, List, true, false, length}
+use Rattle.std.proofs.Common.{take, map, refl, ap, sym, subst, arith, rules}
 use Rattle.guest_code.specs.Program.{Program}
-use Rattle.machine.specs.declared.machine.Run.{Run}
-use Rattle.semantics.specs.declared.mask.Mask.{Mask}
 use Rattle.semantics.specs.Machine.{is_enabled}
 use Rattle.semantics.specs.Mask.{members_from}
 use Rattle.semantics.proofs.WorkFalls.{enabled_below}
 use Rattle.items.specs.Children.{mask_after, cost_of}
-use Rattle.items.specs.declared.mode.Mode.{Mode}
-use Rattle.items.specs.Items.{ItemView}
-use Rattle.walk.specs.declared.found.Found.{Found}
 use Rattle.walk.specs.declared.path.Path.{Path}
 use Rattle.walk.specs.inner.Paths.{state_at, IsPath}
 use Rattle.walk.specs.inner.WalkerInvariant.{left_above, here, item_of, IsExtended, IsAlong}
