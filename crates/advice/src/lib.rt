@@ -48,7 +48,7 @@ use std::slice;
 use text_lines::Marks;
 
 /// What [`check`] finds.
-#[derive(Debug, Drop)]
+#[derive(Drop)]
 pub enum Checked {
     /// The text is a program; these are its warnings and remarks.
     Sound(Vec<Diagnostic>),

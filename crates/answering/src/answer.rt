@@ -16,7 +16,7 @@ use semantics::view::Kind;
 use std::alloc::{AllocError, Global};
 
 /// What the program prints where it did what it was asked for, and the status that it ends with.
-#[derive(Debug, Drop)]
+#[derive(Drop)]
 pub struct Printed {
     /// The bytes for standard output.
     pub output: Vec<u8>,

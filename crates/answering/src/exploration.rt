@@ -18,7 +18,7 @@ use std::sync::Arc;
 pub const DEFAULT_BOUND: u32 = 2;
 
 /// What is asked of a guest program.
-#[derive(Debug, Drop)]
+#[derive(Drop)]
 pub enum GuestRequest {
     /// To replay one schedule, in schedule text, and print its trace.
     Replay { schedule: String },
@@ -29,7 +29,7 @@ pub enum GuestRequest {
 }
 
 /// A search, and by how many workers. Only where it is cut short its report depends on the workers.
-#[derive(Clone, Copy, Debug)]
+#[derive(Clone, Copy)]
 pub struct Exploration {
     pub options: Options,
     /// The workers of the search, at least 1, at most [`WORKERS`](workers::WORKERS).

@@ -10,7 +10,7 @@ ghost use Rattle.answering.specs.inner.Searches.{IsSearch-prop};
 pub const DEFAULT_LIMIT: u64 = 20_000_000;
 
 /// How far each search of a text goes, where several may be made of it, and by how many workers.
-#[derive(Clone, Copy, Debug)]
+#[derive(Clone, Copy)]
 pub struct Limits {
     /// A search is cut short after the round in which it has tried this number of schedules in all.
     pub limit: u64,

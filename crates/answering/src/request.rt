@@ -8,7 +8,7 @@ use crate::limits::Limits;
 use report::Search;
 
 /// What the command words ask for. Files go by the names that the user gave.
-#[derive(Debug, Drop)]
+#[derive(Drop)]
 pub enum Request {
     /// To replay or search the guest program in this file.
     Guest { file: String, request: GuestRequest },
@@ -45,7 +45,7 @@ impl Request {
 }
 
 /// To list prefixes of the schedules of the guest program in a file.
-#[derive(Debug, Drop)]
+#[derive(Drop)]
 pub struct PrefixesRequest {
     pub file: String,
     /// How many prefixes are listed at least, where the program has as many of one length.
@@ -55,7 +55,7 @@ pub struct PrefixesRequest {
 }
 
 /// To search, of the schedules of the guest program in a file, those that begin with a prefix.
-#[derive(Debug, Drop)]
+#[derive(Drop)]
 pub struct UnderRequest {
     pub file: String,
     /// The prefix, in schedule text.
@@ -66,7 +66,7 @@ pub struct UnderRequest {
 
 /// To join parts, which say what was found under prefixes of the schedules of the guest program in
 /// a file, to the report of a search.
-#[derive(Debug, Drop)]
+#[derive(Drop)]
 pub struct JoinRequest {
     pub file: String,
     pub parts: Vec<String>,
@@ -75,7 +75,7 @@ pub struct JoinRequest {
 }
 
 /// To check the guest program in each of several files, and tell what is wrong or odd.
-#[derive(Debug, Drop)]
+#[derive(Drop)]
 pub struct CheckRequest {
     /// A folder stands for the files in it, and in its folders, whose names end in `.guest`.
     pub files: Vec<String>,
@@ -89,7 +89,7 @@ pub struct CheckRequest {
 }
 
 /// The form in which a check tells what is wrong or odd.
-#[derive(Clone, Copy, Debug)]
+#[derive(Clone, Copy)]
 pub enum CheckForm {
     /// In lines for people, with the source.
     Lines,
@@ -100,7 +100,7 @@ pub enum CheckForm {
 }
 
 /// To search the guest program in each file of a suite, and print a table or JSON.
-#[derive(Debug, Drop)]
+#[derive(Drop)]
 pub struct SuiteRequest {
     /// A folder stands for the files in it, and in its folders, whose names end in `.guest`.
     pub files: Vec<String>,
@@ -109,14 +109,14 @@ pub struct SuiteRequest {
 }
 
 /// To say whether the guest program in a file is right.
-#[derive(Debug, Drop)]
+#[derive(Drop)]
 pub struct VerifyRequest {
     pub file: String,
     pub limits: Limits,
 }
 
 /// To explain a schedule of the guest program in a file, or the schedule that a search finds.
-#[derive(Debug, Drop)]
+#[derive(Drop)]
 pub struct ExplainRequest {
     pub file: String,
     /// The schedule, in schedule text. Where there is none, a search finds one.
@@ -131,7 +131,7 @@ pub const DEFAULT_WIDTH: u32 = 100;
 pub const DEFAULT_STEPS: u32 = 40;
 
 /// The form in which an explanation is told.
-#[derive(Clone, Copy, Debug)]
+#[derive(Clone, Copy)]
 pub enum ExplainForm {
     /// As text of this width: each step, where there are at most `steps`, else those that matter.
     Text { width: usize, steps: usize },

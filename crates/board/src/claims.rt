@@ -5,7 +5,7 @@ ghost use Rattle.std.specs.Prelude.{◌≡◌};
 use std::marker::Model;
 
 /// How many numbers of a board were drawn, and the least that was told.
-#[derive(Debug, Drop)]
+#[derive(Drop)]
 pub struct Claims {
     pub(crate) count: u64,
     pub(crate) least: u64,

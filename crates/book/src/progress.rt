@@ -7,7 +7,7 @@ use crate::books::Book;
 use items::mode::Mode;
 
 /// How far a search is after a round.
-#[derive(Clone, Copy, Debug)]
+#[derive(Clone, Copy)]
 pub struct Progress {
     /// The bound that the search is at, or `None` where it has no bound.
     pub bound: Option<u32>,

@@ -15,7 +15,7 @@ use guest_code::program::Program;
 use std::alloc::{AllocError, Global};
 
 /// The events of a run, and which of them are in the cause of how it ended.
-#[derive(Debug, Drop)]
+#[derive(Drop)]
 pub struct Causes {
     events: Vec<Event>,
     marks: Vec<bool>,

@@ -11,7 +11,7 @@ use replay::Act;
 use semantics::state::Stop;
 
 /// What happens in an event.
-#[derive(Clone, Copy, Debug, PartialEq, Eq)]
+#[derive(Clone, Copy, PartialEq, Eq)]
 pub enum Deed {
     /// The step of a visible statement: what it did, and, where the thread stopped at it, why.
     Stepped(Act, Option<Stop>),
@@ -24,7 +24,7 @@ pub enum Deed {
 }
 
 /// One event of a run: a step, a statement of a local run, or that a thread is blocked at its end.
-#[derive(Clone, Copy, Debug, PartialEq, Eq)]
+#[derive(Clone, Copy, PartialEq, Eq)]
 pub struct Event {
     /// The thread, by its number.
     pub thread: u8,

@@ -9,7 +9,7 @@ use crate::event::Event;
 use explain::Step;
 
 /// The first event of a run in which a thread stopped in an error.
-#[derive(Clone, Copy, Debug, PartialEq, Eq)]
+#[derive(Clone, Copy, PartialEq, Eq)]
 pub struct Failure {
     /// The place of the event among the events of the run.
     pub event: usize,

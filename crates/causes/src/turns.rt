@@ -7,7 +7,7 @@ use std::collections::BTreeSet;
 use std::fmt;
 
 /// In which turns of the loops of a text its threads carried out their statements.
-#[derive(Debug, Drop)]
+#[derive(Drop)]
 pub struct Turns {
     // Of each thread its loops with several turns, the outer ones before those in them.
     loops: Vec<Vec<Loop>>,
@@ -16,7 +16,7 @@ pub struct Turns {
 }
 
 // The code of a loop: the first instruction, how many a turn has, and how many turns there are.
-#[derive(Clone, Copy, Debug)]
+#[derive(Clone, Copy)]
 struct Loop {
     first: usize,
     length: usize,
@@ -25,7 +25,7 @@ struct Loop {
 
 /// Which turns of the loops round it a statement is in, the outer loop first; none where its thread
 /// didn't carry it out in a turn after the first. Displayed as `, turn 2 of 3` for each.
-#[derive(Clone, Copy, Debug)]
+#[derive(Clone, Copy)]
 pub struct InTurns<'a> {
     loops: &'a [Loop],
     instruction: usize,

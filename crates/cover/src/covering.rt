@@ -23,7 +23,7 @@ use std::collections::BTreeSet;
 use std::sync::Arc;
 
 /// Why prefixes are no cover of a program.
-#[derive(Debug, Drop)]
+#[derive(Drop)]
 pub enum CoverError {
     /// None of the prefixes begins with this one, and a schedule of the program begins with this
     /// one and with none of the prefixes.

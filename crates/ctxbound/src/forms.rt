@@ -9,11 +9,11 @@ use runner::{Report, report_value};
 use std::alloc::Global;
 
 /// The format of explanations as JSON.
-#[derive(Clone, Copy, Debug)]
+#[derive(Clone, Copy)]
 pub struct Json;
 
 /// The format of explanations as an HTML page.
-#[derive(Clone, Copy, Debug)]
+#[derive(Clone, Copy)]
 pub struct Html;
 
 /// The columns of a line of the text on a page, where each is a paragraph: as many as there may be.

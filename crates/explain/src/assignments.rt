@@ -12,7 +12,7 @@ use semantics::{Turn, run_if_local};
 use std::alloc::{AllocError, Global};
 
 /// An assignment to a local, by an instruction that a thread carries out.
-#[derive(Clone, Copy, Debug, PartialEq, Eq)]
+#[derive(Clone, Copy, PartialEq, Eq)]
 pub struct Assignment {
     /// The number of the instruction that sets the local.
     pub instruction: usize,
@@ -24,7 +24,7 @@ pub struct Assignment {
 
 /// Where a thread was before a step, with the values of its locals, and where it was after the step
 /// and the local run after it.
-#[derive(Clone, Copy, Debug)]
+#[derive(Clone, Copy)]
 pub struct Passage {
     /// The number of the instruction of the step.
     pub from: usize,

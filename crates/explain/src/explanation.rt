@@ -19,7 +19,7 @@ use semantics::view::Kind;
 use std::alloc::{AllocError, Global};
 
 /// The thread that owns a mutex, and since which step.
-#[derive(Clone, Copy, Debug, PartialEq, Eq)]
+#[derive(Clone, Copy, PartialEq, Eq)]
 pub struct Holder {
     /// The thread, by its number.
     pub thread: u8,
@@ -28,7 +28,7 @@ pub struct Holder {
 }
 
 /// A thread before the first step of a schedule.
-#[derive(Debug, Drop)]
+#[derive(Drop)]
 pub struct Start {
     /// The locals that the thread set in its local run from its first instruction on.
     pub assignments: Vec<Assignment>,
@@ -39,7 +39,7 @@ pub struct Start {
 }
 
 /// A schedule as far as it runs: its steps, and the threads and mutexes where it leads.
-#[derive(Debug, Drop)]
+#[derive(Drop)]
 pub struct Explanation {
     schedule: Vec<u8>,
     steps: Vec<Step>,

@@ -5,7 +5,7 @@ use guest_syntax::pieces::Pieces;
 use std::alloc::{AllocError, Global};
 
 /// A `repeat` in a text.
-#[derive(Debug, Drop)]
+#[derive(Drop)]
 pub struct Repeat {
     /// The place of its keyword.
     pub at: Pos,

@@ -8,7 +8,7 @@ ghost use Rattle.explain.specs.Objects.{object_of, reading_of, IsObjectOf};
 use semantics::state::{Action, State};
 
 /// An object, by its kind and its number.
-#[derive(Clone, Copy, Debug, PartialEq, Eq)]
+#[derive(Clone, Copy, PartialEq, Eq)]
 pub enum Object {
     /// The variable of this number.
     Variable(usize),
@@ -21,7 +21,7 @@ pub enum Object {
 }
 
 /// What a state says of an object.
-#[derive(Clone, Copy, Debug, PartialEq, Eq)]
+#[derive(Clone, Copy, PartialEq, Eq)]
 pub enum ObjectState {
     /// The value of a variable.
     Value(i64),

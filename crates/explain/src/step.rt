@@ -17,7 +17,7 @@ use semantics::state::{Action, ConditionAction, State};
 use std::alloc::{AllocError, Global};
 
 /// One step of a run.
-#[derive(Debug, Drop)]
+#[derive(Drop)]
 pub struct Step {
     /// The thread, what it did, whether the switch to it was preempting, and whether it stopped.
     pub line: Line,

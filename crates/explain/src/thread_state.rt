@@ -11,7 +11,7 @@ use guest_code::program::{Instruction, Program};
 use semantics::state::{Action, MutexAction, SemaphoreAction, State, Status};
 
 /// What a blocked thread waits for.
-#[derive(Clone, Copy, Debug, PartialEq, Eq)]
+#[derive(Clone, Copy, PartialEq, Eq)]
 pub enum Reason {
     /// To lock the mutex of this number, which a thread owns.
     Lock(usize),
@@ -78,7 +78,7 @@ fn gives_back(mutex: usize, instruction: &Instruction) -> bool
 }
 
 /// Where one thread is in a state of the program.
-#[derive(Clone, Copy, Debug)]
+#[derive(Clone, Copy)]
 pub struct ThreadState {
     /// Whether the thread goes on, waits, ended or stopped.
     pub status: Status,

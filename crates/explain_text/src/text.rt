@@ -11,7 +11,7 @@ use text_lines::{Columns, FileLine, InLine, Marks, Page};
 use waits::Waits;
 
 /// How wide the text of an explanation is, and which steps have rows.
-#[derive(Clone, Copy, Debug)]
+#[derive(Clone, Copy)]
 pub struct Layout {
     /// Columns of a line, at most; fewer than 40 count as 40, more than 1,000 as 1,000.
     pub width: usize,

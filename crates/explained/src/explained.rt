@@ -38,7 +38,7 @@ pub trait Render {
 
 /// The format of explanations as text, in lines of at most `width` columns. Each step has a row
 /// where there are at most `steps` steps, else only those that matter.
-#[derive(Clone, Copy, Debug)]
+#[derive(Clone, Copy)]
 pub struct Text {
     pub width: usize,
     pub steps: usize,

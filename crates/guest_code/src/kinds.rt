@@ -8,7 +8,7 @@ use crate::limits::{OBJECTS, THREADS, VARIABLES};
 use guest_syntax::tree::Object;
 
 /// What a name is declared as.
-#[derive(Clone, Copy, Debug, PartialEq, Eq)]
+#[derive(Clone, Copy, PartialEq, Eq)]
 pub enum NameKind {
     Variable,
     Mutex,

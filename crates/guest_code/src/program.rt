@@ -8,7 +8,7 @@ use guest_syntax::tree::Op;
 use std::marker::Model;
 
 /// A local of the thread, by its number, or a number.
-#[derive(Clone, Copy, Debug, PartialEq, Eq)]
+#[derive(Clone, Copy, PartialEq, Eq)]
 pub enum Value {
     /// The local of this number.
     Local(usize),
@@ -17,7 +17,7 @@ pub enum Value {
 }
 
 /// A value alone, or two with an operator between them.
-#[derive(Clone, Copy, Debug, PartialEq, Eq)]
+#[derive(Clone, Copy, PartialEq, Eq)]
 pub enum Expression {
     /// A value alone.
     Single(Value),
@@ -27,7 +27,7 @@ pub enum Expression {
 
 /// One instruction of a thread. Objects and locals go by their numbers, each kind counted from 0
 /// in the order of declaration, locals in the order of first use.
-#[derive(Clone, Copy, Debug, PartialEq, Eq)]
+#[derive(Clone, Copy, PartialEq, Eq)]
 pub enum Instruction {
     /// The local becomes the variable's value.
     Load {
@@ -85,7 +85,7 @@ pub enum Instruction {
 }
 
 /// A variable's name, and its value before the first step.
-#[derive(Debug, PartialEq, Eq, Drop)]
+#[derive(PartialEq, Eq, Drop)]
 pub struct Variable {
     /// The name, as the text spells it.
     pub name: Vec<u8>,
@@ -94,7 +94,7 @@ pub struct Variable {
 }
 
 /// A semaphore's name, and its count before the first step.
-#[derive(Debug, PartialEq, Eq, Drop)]
+#[derive(PartialEq, Eq, Drop)]
 pub struct Semaphore {
     /// The name, as the text spells it.
     pub name: Vec<u8>,
@@ -103,7 +103,7 @@ pub struct Semaphore {
 }
 
 /// A thread's name, how many locals it has, and its code.
-#[derive(Debug, PartialEq, Eq, Drop)]
+#[derive(PartialEq, Eq, Drop)]
 pub struct Thread {
     /// The name, as the text spells it.
     pub name: Vec<u8>,
@@ -114,7 +114,7 @@ pub struct Thread {
 }
 
 /// A program: names resolved, jumps forwards, limits kept.
-#[derive(Debug, Drop)]
+#[derive(Drop)]
 pub struct Program {
     variables: Vec<Variable>,
     mutexes: Vec<Vec<u8>>,

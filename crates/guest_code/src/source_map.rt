@@ -18,7 +18,7 @@ use std::marker::Model;
 /// For each instruction of a program the place of the statement that it was made of, and the names
 /// of its threads' locals. A map is apart from its program: two texts that differ in their layout
 /// alone have one program.
-#[derive(Debug, Drop)]
+#[derive(Drop)]
 pub struct SourceMap {
     places: Vec<Vec<Pos>>,
     locals: Vec<Vec<Vec<u8>>>,

@@ -10,7 +10,7 @@ use crate::limits::TEXT_BYTES;
 use crate::place::Pos;
 
 /// A token, or a byte with which no token begins.
-#[derive(Clone, Copy, Debug)]
+#[derive(Clone, Copy)]
 pub struct Piece<'a> {
     /// The piece's bytes.
     pub text: &'a [u8],

@@ -6,7 +6,7 @@ ghost use Rattle.guest_syntax.specs.Tokens.{keyword_text, symbol_text};
 use crate::place::Pos;
 
 /// A reserved word: nothing may have it as its name.
-#[derive(Clone, Copy, Debug, PartialEq, Eq)]
+#[derive(Clone, Copy, PartialEq, Eq)]
 pub enum Keyword {
     Var,
     Mutex,
@@ -33,7 +33,7 @@ pub enum Keyword {
 }
 
 /// An operator such as `+`, or a mark: the `=` of a declaration, a brace or `;`.
-#[derive(Clone, Copy, Debug, PartialEq, Eq)]
+#[derive(Clone, Copy, PartialEq, Eq)]
 pub enum Symbol {
     Equal,
     NotEqual,
@@ -51,7 +51,7 @@ pub enum Symbol {
 }
 
 /// What a token is, with the bytes of a name and the value of a number.
-#[derive(Clone, Copy, Debug)]
+#[derive(Clone, Copy)]
 pub enum TokenKind<'a> {
     Name(&'a [u8]),
     Keyword(Keyword),
@@ -61,7 +61,7 @@ pub enum TokenKind<'a> {
 }
 
 /// A token and the place of its first byte.
-#[derive(Clone, Copy, Debug)]
+#[derive(Clone, Copy)]
 pub struct Token<'a> {
     pub kind: TokenKind<'a>,
     pub at: Pos,

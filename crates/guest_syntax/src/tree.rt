@@ -6,7 +6,7 @@ ghost use Rattle.guest_syntax.specs.Tree.{declaration_view, thread_view, tree_vi
 use crate::place::Pos;
 
 /// A name, and where it is.
-#[derive(Debug, Drop)]
+#[derive(Drop)]
 pub struct Name {
     /// The bytes of the name: ASCII letters, digits and `_`.
     pub text: Vec<u8>,
@@ -15,7 +15,7 @@ pub struct Name {
 }
 
 /// A local of the thread, or a number.
-#[derive(Debug, Drop)]
+#[derive(Drop)]
 pub enum Operand {
     /// The local of this name.
     Local(Name),
@@ -24,7 +24,7 @@ pub enum Operand {
 }
 
 /// What an expression makes of two values: `+`, `-`, `*` wrap; signed comparisons give 1 or 0.
-#[derive(Clone, Copy, Debug, PartialEq, Eq)]
+#[derive(Clone, Copy, PartialEq, Eq)]
 pub enum Op {
     /// `+`
     Add,
@@ -47,7 +47,7 @@ pub enum Op {
 }
 
 /// An operand alone, or two with an operator between them.
-#[derive(Debug, Drop)]
+#[derive(Drop)]
 pub enum Expr {
     /// An operand alone.
     Single(Operand),
@@ -56,7 +56,7 @@ pub enum Expr {
 }
 
 /// A statement, and where it is.
-#[derive(Debug, Drop)]
+#[derive(Drop)]
 #[cycle(statements)]
 pub struct Placed {
     /// The place of the statement's first byte, with which its keyword begins.
@@ -66,7 +66,7 @@ pub struct Placed {
 }
 
 /// A statement of a thread, named after its keyword; `docs/LANGUAGE.md` says what each does.
-#[derive(Debug, Drop)]
+#[derive(Drop)]
 #[cycle(statements)]
 pub enum Statement {
     /// Reads the variable into the local.
@@ -152,7 +152,7 @@ pub enum Statement {
 }
 
 /// What a declaration declares, with its value before the first step.
-#[derive(Clone, Copy, Debug, PartialEq, Eq)]
+#[derive(Clone, Copy, PartialEq, Eq)]
 pub enum Object {
     /// A variable, with its value before the first step: 0 where the text gives none.
     Variable(i64),
@@ -165,7 +165,7 @@ pub enum Object {
 }
 
 /// A declared object.
-#[derive(Debug, Drop)]
+#[derive(Drop)]
 pub struct Declaration {
     /// The object's name.
     pub name: Name,
@@ -174,7 +174,7 @@ pub struct Declaration {
 }
 
 /// A thread and its statements.
-#[derive(Debug, Drop)]
+#[derive(Drop)]
 pub struct Thread {
     /// The thread's name.
     pub name: Name,
@@ -183,7 +183,7 @@ pub struct Thread {
 }
 
 /// The tree of a text. Contracts see it by `tree_view` of `specs/Tree.antt`, without memory.
-#[derive(Debug, Drop)]
+#[derive(Drop)]
 pub struct Tree {
     declarations: Vec<Declaration>,
     threads: Vec<Thread>,

@@ -10,7 +10,7 @@ use replay::schedule_text;
 use std::alloc::{AllocError, Global};
 
 /// Where a part belongs: a prefix, and a bound, which is `None` in a search without one.
-#[derive(Debug, Drop)]
+#[derive(Drop)]
 pub struct PartPlace {
     /// The prefix.
     pub under: Vec<u8>,
@@ -19,7 +19,7 @@ pub struct PartPlace {
 }
 
 /// Why parts don't join to a report.
-#[derive(Debug, Drop)]
+#[derive(Drop)]
 pub enum JoinError {
     /// Some schedule of the program begins with this prefix and with the prefix of no part, and no
     /// part's prefix begins with this one.

@@ -24,7 +24,7 @@ use semantics::state::Status;
 
 /// A state but for its values and queues. It is small and copied as it is, so that a copy takes no
 /// call.
-#[derive(Clone, Copy, Debug)]
+#[derive(Clone, Copy)]
 pub struct Control {
     /// The threads that can take a step.
     pub(crate) enabled: Mask,

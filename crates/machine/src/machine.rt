@@ -51,7 +51,7 @@ pub struct Shape {
 }
 
 /// How far a run of a thread may go.
-#[derive(Clone, Copy, Debug)]
+#[derive(Clone, Copy)]
 pub struct Reach {
     /// Whether steps may follow the first one, as where no other thread may step while this can.
     pub further: bool,
@@ -60,7 +60,7 @@ pub struct Reach {
 }
 
 /// What a run of a thread came to.
-#[derive(Clone, Copy, Debug)]
+#[derive(Clone, Copy)]
 pub struct Run {
     /// How many steps were taken, at least one.
     pub steps: u32,

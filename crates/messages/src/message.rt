@@ -8,7 +8,7 @@ use std::fmt;
 const SHOWN: usize = 92;
 
 /// Consecutive bytes of a text.
-#[derive(Clone, Copy, Debug, PartialEq, Eq)]
+#[derive(Clone, Copy, PartialEq, Eq)]
 pub struct Span {
     /// The line and the column of the first byte.
     pub at: Pos,
@@ -17,7 +17,7 @@ pub struct Span {
 }
 
 /// A note on a diagnostic: what is odd about another place of the text, or what to write instead.
-#[derive(Debug, Drop)]
+#[derive(Drop)]
 pub struct Note {
     /// The bytes that the note is of, if it is of a place.
     pub span: Option<Span>,
@@ -26,7 +26,7 @@ pub struct Note {
 }
 
 /// How grave a diagnostic is, the gravest first.
-#[derive(Clone, Copy, Debug, PartialEq, Eq)]
+#[derive(Clone, Copy, PartialEq, Eq)]
 pub enum Severity {
     /// The text is refused.
     Refusal,
@@ -48,7 +48,7 @@ impl fmt::Display for Severity {
 }
 
 /// A refusal of a text, or a warning or a remark on it, with what a person is told of it.
-#[derive(Debug, Drop)]
+#[derive(Drop)]
 pub struct Diagnostic {
     /// How grave the diagnostic is.
     pub severity: Severity,

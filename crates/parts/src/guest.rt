@@ -8,7 +8,7 @@ use sha2::{Digest, Sha256};
 
 /// A guest's text by its length and its digest: texts that are equal in both are taken for the
 /// same.
-#[derive(Clone, Copy, Debug, PartialEq, Eq)]
+#[derive(Clone, Copy, PartialEq, Eq)]
 pub struct GuestDigest {
     /// How many bytes the text has.
     pub bytes: u64,

@@ -22,7 +22,7 @@ use std::marker::Model;
 
 /// What a step did, and with which object. Objects go by their numbers, each kind counted from 0
 /// in the order of declaration.
-#[derive(Clone, Copy, Debug, PartialEq, Eq)]
+#[derive(Clone, Copy, PartialEq, Eq)]
 pub enum Act {
     /// The value is the one read.
     Load {
@@ -69,7 +69,7 @@ pub enum Act {
 }
 
 /// One step of a run.
-#[derive(Clone, Copy, Debug, PartialEq, Eq)]
+#[derive(Clone, Copy, PartialEq, Eq)]
 pub struct Line {
     /// The thread, by its number.
     pub thread: u8,
@@ -83,7 +83,7 @@ pub struct Line {
 }
 
 /// The run of a schedule: what each step did, and where the last one led.
-#[derive(Debug, Drop)]
+#[derive(Drop)]
 pub struct Run {
     stopped: Vec<u8>,
     lines: Vec<Line>,

@@ -6,7 +6,7 @@ ghost use Rattle.report.specs.declared.limits.TheConstants.{QUOTA};
 use crate::limits::QUOTA;
 
 /// How far a search goes.
-#[derive(Clone, Copy, Debug, PartialEq, Eq)]
+#[derive(Clone, Copy, PartialEq, Eq)]
 pub enum Search {
     /// Through all complete schedules with no preemption, then with at most one, and so on, up to
     /// this bound; it ends at the first bound within which a schedule is bad. At most
@@ -23,7 +23,7 @@ pub enum Search {
 }
 
 /// What a search is asked for.
-#[derive(Clone, Copy, Debug, PartialEq, Eq)]
+#[derive(Clone, Copy, PartialEq, Eq)]
 pub struct Options {
     /// How far the search goes.
     pub search: Search,

@@ -7,7 +7,7 @@ use semantics::view::Kind;
 use summary::Summary;
 
 /// Why a search was cut short.
-#[derive(Clone, Copy, Debug, PartialEq, Eq)]
+#[derive(Clone, Copy, PartialEq, Eq)]
 pub enum Cause {
     /// As many schedules as the limit were tried.
     Limit,
@@ -16,7 +16,7 @@ pub enum Cause {
 }
 
 /// How a search ended.
-#[derive(Debug, Drop)]
+#[derive(Drop)]
 pub enum Verdict {
     /// No complete schedule as far as the search went is bad: none fails or gets stuck.
     Clean {

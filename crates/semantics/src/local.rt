@@ -10,7 +10,7 @@ use guest_code::program::{Expression, Instruction, Value};
 use guest_syntax::tree::Op;
 
 /// What came of the instruction that a thread is at: a local one was run, a visible one wasn't.
-#[derive(Clone, Copy, Debug, PartialEq, Eq)]
+#[derive(Clone, Copy, PartialEq, Eq)]
 pub enum Turn {
     /// The instruction is local and was run. The next one has this number, or this is the code's
     /// length, and the end follows.
@@ -26,7 +26,7 @@ pub enum Turn {
 }
 
 /// Where a thread is after its local run, and its status.
-#[derive(Clone, Copy, Debug)]
+#[derive(Clone, Copy)]
 pub struct Landing {
     /// The number of the instruction; the length of the code where the thread ended.
     pub pc: usize,

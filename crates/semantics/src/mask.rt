@@ -6,7 +6,7 @@ ghost use Rattle.semantics.specs.Mask.{has, no_threads, members_from};
 use guest_code::limits::THREADS;
 
 /// A set of thread numbers, a bit for each thread.
-#[derive(Clone, Copy, Debug, PartialEq, Eq)]
+#[derive(Clone, Copy, PartialEq, Eq)]
 pub struct Mask {
     pub(crate) bits: u16,
 }

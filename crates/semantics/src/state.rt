@@ -34,7 +34,7 @@ pub enum Stop {
 }
 
 /// Whether a thread runs, waits, has to take its mutex again, ended or stopped.
-#[derive(Clone, Copy, Debug, PartialEq, Eq)]
+#[derive(Clone, Copy, PartialEq, Eq)]
 pub enum Status {
     /// The thread is at a visible statement.
     Running,
@@ -61,7 +61,7 @@ impl Status {
 }
 
 /// Where in its code a thread is, its locals, and its status.
-#[derive(Clone, Copy, Debug)]
+#[derive(Clone, Copy)]
 pub struct Thread {
     /// The number of the instruction that the thread is at; where it ended, the length of its code.
     pub pc: usize,
@@ -71,7 +71,7 @@ pub struct Thread {
 }
 
 /// What a step does with a variable.
-#[derive(Clone, Copy, Debug, PartialEq, Eq)]
+#[derive(Clone, Copy, PartialEq, Eq)]
 pub enum VariableAction {
     /// The local of this number becomes the variable's value.
     Load(usize),
@@ -86,7 +86,7 @@ pub enum VariableAction {
 }
 
 /// What a step does with a mutex alone.
-#[derive(Clone, Copy, Debug, PartialEq, Eq)]
+#[derive(Clone, Copy, PartialEq, Eq)]
 pub enum MutexAction {
     Lock,
     Unlock,
@@ -95,7 +95,7 @@ pub enum MutexAction {
 }
 
 /// What a step does with a condition alone.
-#[derive(Clone, Copy, Debug, PartialEq, Eq)]
+#[derive(Clone, Copy, PartialEq, Eq)]
 pub enum ConditionAction {
     /// The thread that has waited longest is woken.
     Signal,
@@ -104,7 +104,7 @@ pub enum ConditionAction {
 }
 
 /// What a step does with a semaphore.
-#[derive(Clone, Copy, Debug, PartialEq, Eq)]
+#[derive(Clone, Copy, PartialEq, Eq)]
 pub enum SemaphoreAction {
     /// The count falls by 1.
     Acquire,
@@ -113,7 +113,7 @@ pub enum SemaphoreAction {
 }
 
 /// What the next step of a thread does, and with which object, by its number.
-#[derive(Clone, Copy, Debug, PartialEq, Eq)]
+#[derive(Clone, Copy, PartialEq, Eq)]
 pub enum Action {
     OnVariable(usize, VariableAction),
     OnMutex(usize, MutexAction),

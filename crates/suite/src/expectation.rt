@@ -3,7 +3,7 @@
 use std::fmt;
 
 /// What is expected of a guest.
-#[derive(Clone, Copy, Debug, PartialEq, Eq)]
+#[derive(Clone, Copy, PartialEq, Eq)]
 pub enum ExpectedVerdict {
     /// That some schedule is bad.
     Bad,
@@ -31,7 +31,7 @@ impl fmt::Display for ExpectedVerdict {
 }
 
 /// What the comments of a text expect.
-#[derive(Clone, Copy, Debug, PartialEq, Eq)]
+#[derive(Clone, Copy, PartialEq, Eq)]
 pub enum Expectation {
     /// No line states a verdict.
     Absent,

@@ -18,7 +18,7 @@ const NOTHING: &str = "-";
 
 /// The columns of a table whose rows are printed one by one. The schedule, of any length, is last:
 /// no other column is moved by it.
-#[derive(Clone, Copy, Debug)]
+#[derive(Clone, Copy)]
 pub struct Table {
     alloc: Global,
     /// The width of the first column, which is as wide as the longest name.

@@ -7,7 +7,7 @@ use std::alloc::{AllocError, Global};
 use std::fmt;
 
 /// The statuses of the files of a suite that are done.
-#[derive(Debug, Drop)]
+#[derive(Drop)]
 pub struct Tally {
     statuses: Vec<u8>,
 }

@@ -29,7 +29,7 @@ pub struct Summary {
 }
 
 /// The counts of a summary.
-#[derive(Clone, Copy, Debug, PartialEq, Eq)]
+#[derive(Clone, Copy, PartialEq, Eq)]
 pub struct Counts {
     /// How many were tried.
     pub tried: u64,

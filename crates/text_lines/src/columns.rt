@@ -26,7 +26,7 @@ pub const GAP: usize = 2;
 const CHANGES_WIDTH: usize = 29;
 
 /// How wide what is in a thread's column is.
-#[derive(Clone, Copy, Debug, Default)]
+#[derive(Clone, Copy, Default)]
 pub struct Content {
     /// The thread's name.
     pub name: usize,
@@ -47,7 +47,7 @@ impl Content {
 }
 
 /// Where each column of a table begins.
-#[derive(Debug, Drop)]
+#[derive(Drop)]
 pub struct Columns {
     /// How wide the lines of the table are, at most.
     pub width: usize,

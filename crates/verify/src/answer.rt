@@ -52,7 +52,7 @@ impl Correctness {
 
 /// A number of preemptions, which is displayed in words: `no preemption`, `1 preemption` or
 /// `2 preemptions`.
-#[derive(Clone, Copy, Debug)]
+#[derive(Clone, Copy)]
 pub struct Preemptions(pub u32);
 
 impl fmt::Display for Preemptions {

@@ -16,7 +16,7 @@ use std::alloc::Global;
 use std::sync::Arc;
 
 /// A complete schedule that fails or gets stuck.
-#[derive(Debug, Drop)]
+#[derive(Drop)]
 pub struct BadSchedule {
     /// The numbers of the threads that take the schedule's steps, in order.
     pub steps: Vec<u8>,

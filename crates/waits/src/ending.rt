@@ -14,7 +14,7 @@ use semantics::owns;
 use std::alloc::{AllocError, Global};
 
 /// A statement that could end the wait of a blocked thread, and what came of the statement.
-#[derive(Clone, Copy, Debug, PartialEq, Eq)]
+#[derive(Clone, Copy, PartialEq, Eq)]
 pub struct Statement {
     /// The thread in whose code the statement is.
     pub thread: u8,
@@ -25,7 +25,7 @@ pub struct Statement {
 }
 
 /// A thread that is blocked at the end of a schedule.
-#[derive(Clone, Copy, Debug)]
+#[derive(Clone, Copy)]
 pub struct Blocked {
     /// The number of the thread.
     pub thread: u8,

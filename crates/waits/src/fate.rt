@@ -17,7 +17,7 @@ use lint::paths::{Mark, Watch, path_marks};
 use std::alloc::{AllocError, Global};
 
 /// What came of an instruction of a thread in a schedule.
-#[derive(Clone, Copy, Debug, PartialEq, Eq)]
+#[derive(Clone, Copy, PartialEq, Eq)]
 pub enum Fate {
     /// The instruction was carried out, first in the step at this place.
     Taken(usize),

@@ -17,7 +17,7 @@ use std::alloc::{AllocError, Global};
 
 /// What a thread looks at that is woken from the queue of a condition and goes on alone: what it
 /// does up to the first statement that is no `load`.
-#[derive(Debug, Drop)]
+#[derive(Drop)]
 pub struct Look {
     /// The variables that the thread loads, one after the other.
     pub variables: Vec<usize>,

@@ -18,7 +18,7 @@ use semantics::mask::Mask;
 use std::alloc::{AllocError, Global};
 
 /// A thread that is blocked at the end of a schedule, and who could end its wait.
-#[derive(Debug, Drop)]
+#[derive(Drop)]
 pub struct Wait {
     /// The number of the thread.
     pub thread: u8,
@@ -53,7 +53,7 @@ impl Wait {
 }
 
 /// All threads that are blocked at the end of a schedule, and their circles.
-#[derive(Debug, Drop)]
+#[derive(Drop)]
 pub struct Waits {
     waits: Vec<Wait>,
     circles: Vec<Mask>,

@@ -23,7 +23,7 @@ use summary::EndMemory;
 const LONG_RUN: u32 = 8;
 
 /// A node of the tree of schedules.
-#[derive(Clone, Copy, Debug)]
+#[derive(Clone, Copy)]
 pub struct Node {
     /// The threads whose steps are still to be tried.
     pub todo: Mask,
@@ -36,7 +36,7 @@ pub struct Node {
 }
 
 /// A node on the way to the path's node, to which a walk can backtrack.
-#[derive(Clone, Copy, Debug)]
+#[derive(Clone, Copy)]
 pub struct Frame {
     pub node: Node,
     /// How many steps lead to the node.

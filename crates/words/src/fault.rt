@@ -13,7 +13,7 @@ use std::io;
 use std::io::Write;
 
 /// Why the command words ask for nothing.
-#[derive(Debug, Drop)]
+#[derive(Drop)]
 pub enum WordsFault {
     /// Some word is not UTF-8.
     NotUtf8,

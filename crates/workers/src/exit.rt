@@ -7,7 +7,7 @@ ghost use Rattle.workers.specs.declared.exit.Exit.TheVariants.{Stopped, OutOfMem
 use report::ExploreError;
 
 /// How a worker, or all of them, ended.
-#[derive(Clone, Copy, Debug, PartialEq, Eq)]
+#[derive(Clone, Copy, PartialEq, Eq)]
 pub enum Exit {
     /// All rounds of the stretch are walked, or the board has no number any more.
     Finished,

@@ -6,7 +6,7 @@ ghost use Rattle.workers.specs.declared.gate.Answer.TheVariants.{Stop};
 use book::progress::Progress;
 
 /// What a gate answers to a worker that is about to walk an item.
-#[derive(Clone, Copy, Debug, PartialEq, Eq)]
+#[derive(Clone, Copy, PartialEq, Eq)]
 pub enum Answer {
     /// The item is walked.
     Go,
@@ -45,7 +45,7 @@ pub trait Gate: Sync {
 }
 
 /// The gate that never stops a worker.
-#[derive(Clone, Copy, Debug)]
+#[derive(Clone, Copy)]
 pub struct Open;
 
 impl Gate for Open {

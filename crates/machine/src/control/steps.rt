@@ -30,7 +30,7 @@ use semantics::{Landing, Turn, access, run_if_local, run_local};
 
 // A thread in the midst of a run: where it is, with which status, after how many steps, the threads
 // that were enabled after the first of them with itself, and whether it heeds no change of these.
-#[derive(Clone, Copy, Debug)]
+#[derive(Clone, Copy)]
 pub(crate) struct MovingThread {
     thread: u8,
     place: usize,
