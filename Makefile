@@ -49,11 +49,11 @@ export HELP
 help:
 	@echo "$$HELP"
 
-# `rt try` runs a program without proofs, on a copy of the guest: `first`, which answers these words
+# `rt try` runs a program without proofs, on a copy of the guest: `ctxbound_first`, which answers these words
 # as `ctxbound` does and compiles sooner. Standard error, kept in build/log, has what the program
 # writes there and then, from `checked: ` on, what `rt try` says of itself. The status is the
 # program's own, which is 1 where a schedule is bad.
-TRY = mkdir -p build && cd crates/first && rt try --data "$$name=$$guest" -- "$$@" 2> ../../build/log; \
+TRY = mkdir -p build && cd crates/ctxbound_first && rt try --data "$$name=$$guest" -- "$$@" 2> ../../build/log; \
 	status=$$?; \
 	grep -q '^run=ended ' ../../build/log || { cat ../../build/log >&2; exit 2; }; \
 	sed '/^checked: /,$$d' ../../build/log; \
@@ -64,7 +64,7 @@ COMPILING = echo "Compiling without proofs, which takes about a minute .."
 NEEDS_PROGRAM = test -x "$(PROGRAM)" || \
 	{ echo "$(PROGRAM) isn't there: run \`make build\` first" >&2; exit 2; }
 
-VERSION = $(shell sed -n 's/^pub const VERSION: &str = "\(.*\)";/\1/p' crates/words/src/commands.rt)
+VERSION = $(shell sed -n 's/^pub const VERSION: &str = "\(.*\)";/\1/p' crates/ctxbound_words/src/commands.rt)
 NAMED = ctxbound-$(VERSION)
 SHARE = $(DESTDIR)$(PREFIX)/share
 
@@ -195,7 +195,7 @@ times:
 shown:
 	@$(NEEDS_PROGRAM)
 	python3 tests/docs.py "$(PROGRAM)"
-	python3 tests/commands.py "$(PROGRAM)" $(wildcard crates/first/out/first)
+	python3 tests/commands.py "$(PROGRAM)" $(wildcard crates/ctxbound_first/out/ctxbound_first)
 	python3 tests/check.py "$(PROGRAM)"
 	python3 tests/explain.py "$(PROGRAM)"
 	python3 tests/simulator.py "$(PROGRAM)"
@@ -204,7 +204,7 @@ shown:
 	python3 tests/machines.py "$(PROGRAM)"
 	python3 tests/page.py "$(PROGRAM)"
 	python3 tests/around.py "$(PROGRAM)"
-	@test ! -x crates/tools/out/tools || python3 tests/rounds.py "$(PROGRAM)" crates/tools/out/tools
+	@test ! -x crates/tests_tools/out/tests_tools || python3 tests/rounds.py "$(PROGRAM)" crates/tests_tools/out/tests_tools
 	"$(PROGRAM)" suite examples
 
 # Small programs made at random, other ones each time.
@@ -214,7 +214,7 @@ fuzz:
 
 bench:
 	@mkdir -p build
-	@cd crates/tools && rt run -- walk data/race.guest 1 > ../../build/log 2>&1 || { cat ../../build/log; exit 1; }
+	@cd crates/tests_tools && rt run -- walk data/race.guest 1 > ../../build/log 2>&1 || { cat ../../build/log; exit 1; }
 	@python3 bench/walk.py
 	@test ! -x build/ctxbound || python3 bench/workers.py build/ctxbound
 	@test ! -x build/ctxbound || python3 bench/parts.py build/ctxbound

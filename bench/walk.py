@@ -1,7 +1,7 @@
 #!/usr/bin/env python3
 """bench/walk.py [OTHER [GUEST MODE ..]]: how fast a walk tries the schedules of a guest.
 
-It runs `walk` of the built `tools` on a guest in a mode, a bound or `reduced`, and prints what the walk
+It runs `walk` of the built `tests_tools` on a guest in a mode, a bound or `reduced`, and prints what the walk
 tried, the least user time of five runs, schedules a second, how many prefixes the bound put off, and
 how many bytes of memory the run held for each of them, where they are a million or more. OTHER is
 another explorer to measure beside it, a program that takes `explore GUEST --bound BOUND` or
@@ -15,7 +15,7 @@ import tempfile
 import time
 
 TOP = os.path.dirname(os.path.dirname(os.path.abspath(__file__)))
-BINARY = os.path.join(TOP, "crates", "tools", "out", "tools")
+BINARY = os.path.join(TOP, "crates", "tests_tools", "out", "tests_tools")
 GUEST = os.path.join(TOP, "bench", "four_by_five.guest")
 RUNS = 5
 # From so many prefixes on, nearly all memory is theirs.

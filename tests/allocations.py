@@ -6,7 +6,7 @@ BINARY is the program. With ample memory each run must end with its own status a
 With a request refused, its answer must be the same, or `ctxbound: memory` with status 4 and nothing
 on standard output; a suite may also say it of one of its files, if all else that it says is the same, or
 after the rows of some files, and `verify` after the lines of some searches. TOOLS is the program of the crate
-`tools`. Its `walk` walks all schedules of a guest: with ample memory it must count them and end with status 0,
+`tests_tools`. Its `walk` walks all schedules of a guest: with ample memory it must count them and end with status 0,
 and with a request refused do the same, or say nothing and end with status 1 or 2. Its `again` makes each call
 of the libraries again that was refused: it must say the same, or nothing with status 2. A run that doesn't
 end in time fails its sweep. The sweep of a run ends at the first number that is past its last request; since

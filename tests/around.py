@@ -311,7 +311,7 @@ class Around(Tester):
 
     def first_runs(self):
         """`make run` and `make try` ask for what they should of a copy of any guest. In place of `rt try`, which
-        compiles `first`, the program runs."""
+        compiles `ctxbound_first`, the program runs."""
         if not self.has("make", "the first runs"):
             return
         example = EXAMPLES / "first.guest"

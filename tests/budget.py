@@ -18,7 +18,7 @@ KINDS = {"src": "*.rt", "specs": "*.antt", "proofs": "*.antt"}
 HEAD = """\
 # What each crate may have: lines of src, specs and proofs; and of each 1,000 seconds that a check of all crates from nothing
 # takes, by one job on a quiet machine, those for this one. `tests/budget.py` compares; CONTRIBUTING.md says who raises a line.
-# %-16s%6s%7s%8s%9s
+# %-20s%6s%7s%8s%9s
 """ % ("crate", *KINDS, "seconds")
 
 
@@ -81,8 +81,8 @@ def times(listed):
     taken = seconds()
     unit = to_seconds(listed, taken)
     for crate, now in sorted(taken.items(), key=lambda row: -row[1]):
-        print("%-18s%6.0f s%8.0f s in the list" % (crate, now, listed[crate][1] * unit if crate in listed else 0))
-    print("%-18s%6.0f s, in %d of %d crates" % ("all", sum(taken.values()), len(taken), len(crates())))
+        print("%-22s%6.0f s%8.0f s in the list" % (crate, now, listed[crate][1] * unit if crate in listed else 0))
+    print("%-22s%6.0f s, in %d of %d crates" % ("all", sum(taken.values()), len(taken), len(crates())))
     return 0 if taken else 1
 
 
@@ -90,7 +90,7 @@ def write(listed):
     taken = seconds()
     unit = to_seconds(listed, taken)
     spent = {crate: taken.get(crate, listed[crate][1] * unit if crate in listed else 0) for crate in crates()}
-    rows = ["  %-16s%6d%7d%8d%9.1f\n" % (crate, *lines_of(crate).values(), 1000 * spent[crate] / (sum(spent.values()) or 1))
+    rows = ["  %-20s%6d%7d%8d%9.1f\n" % (crate, *lines_of(crate).values(), 1000 * spent[crate] / (sum(spent.values()) or 1))
             for crate in crates()]
     LIST.write_text(HEAD + "".join(rows), encoding="utf-8")
     return 0

@@ -3,7 +3,7 @@
 
 Usage: tests/commands.py BINARY [FIRST]
 
-FIRST is the program of the crate `first`. What is expected was worked out by hand from docs/LANGUAGE.md and docs/FORMATS.md, or is what another
+FIRST is the program of the crate `ctxbound_first`. What is expected was worked out by hand from docs/LANGUAGE.md and docs/FORMATS.md, or is what another
 command has to print. `make shown` runs it.
 """
 import json
@@ -802,7 +802,7 @@ class Commands(Tester):
             self.compare(words, (done.stderr.decode(), done.returncode), (line, 4))
 
     def first(self, first):
-        """The three commands of `first` print what they print here; it refuses all other words."""
+        """The three commands of `ctxbound_first` print what they print here; it refuses all other words."""
         asked = lambda words: run([first, *words], cwd=self.folder)
         # A search of pairs.guest with a bound has 16! schedules before it: none ends.
         guests = [name for name in FILES if name.endswith(".guest") and name != "pairs.guest"]
@@ -812,7 +812,7 @@ class Commands(Tester):
                       *(["replay", "race.guest", text] for text in ("0,1,0", "0x2,1", "-", "0", "0,", "7", "0x3")),
                       ["replay", "refused.guest", "0"], ["replay", "gone.guest", "0"], ["explore", "folder", "--trace"]):
             self.compare(words, asked(words), self.run(words))
-        usage = "usage: first explain FILE [SCHEDULE], first explore FILE --trace, or first replay FILE SCHEDULE\n"
+        usage = "usage: ctxbound_first explain FILE [SCHEDULE], ctxbound_first explore FILE --trace, or ctxbound_first replay FILE SCHEDULE\n"
         for words in ([], ["explain"], ["explain", "race.guest", "0", "--html"], ["explore", "race.guest"], ["replay", "race.guest"], ["unbounded", "race.guest", "--trace"],
                       ["explore", "race.guest", "--quick"], ["explore", "race.guest", "--trace", "--quick"]):
             self.compare(["first"] + words, asked(words), ("", usage, 2))

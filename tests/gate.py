@@ -21,8 +21,8 @@ from pathlib import Path
 ROOT = Path(__file__).resolve().parent.parent
 CLOSING = re.compile(r"(\d+) passed, (\d+) failed$")
 PROGRAM = "build/ctxbound"
-TOOLS = "crates/tools/out/tools"
-FIRST = "crates/first/out/first"
+TOOLS = "crates/tests_tools/out/tests_tools"
+FIRST = "crates/ctxbound_first/out/ctxbound_first"
 LEFT_OUT = re.compile(r"\w+ \S+: proved$")
 # What is tried of the built program after the commands that the documents show.
 TRIED = {

@@ -1,7 +1,7 @@
 #!/usr/bin/env python3
 """tests/rounds.py PROGRAM TOOLS: what workers do in each round, and what the answer may depend on.
 
-PROGRAM is `ctxbound`. TOOLS is the program of the crate `tools`, which searches a guest by a gate that writes
+PROGRAM is `ctxbound`. TOOLS is the program of the crate `tests_tools`, which searches a guest by a gate that writes
 down who is asked about which item, and when a round ends. Expected numbers are counted by hand: n threads
 of one step each have n! complete schedules, all without a preemption; where a walk tries one schedule,
 there are as many walks as schedules.

@@ -8,15 +8,15 @@ use Rattle.std.proofs.lemmas.List.Edits.{remove-append_left}
 use Rattle.std.proofs.lemmas.List.Elements.{All-nil, All-cons}
 use Rattle.std.proofs.lemmas.Grind.{flat_map-append}
 use Rattle.guest_code.specs.Program.{Program}
-use Rattle.summary.specs.Summaries.{SummaryView, IsSummary, nothing, join}
-use Rattle.summary.proofs.SumsJoin.{join_assoc, join_nothing}
-use Rattle.items.specs.Items.{ItemView, AreOf}
-use Rattle.items.specs.declared.mode.Mode.{Mode}
+use Rattle.walk_summary.specs.Summaries.{SummaryView, IsSummary, nothing, join}
+use Rattle.walk_summary.proofs.SumsJoin.{join_assoc, join_nothing}
+use Rattle.walk_items.specs.Items.{ItemView, AreOf}
+use Rattle.walk_items.specs.declared.mode.Mode.{Mode}
 use Rattle.walk.specs.declared.found.Found.{Found}
-use Rattle.items.specs.Walks.{WalkView, IsWalked, items_at, listed_if}
+use Rattle.walk_items.specs.Walks.{WalkView, IsWalked, items_at, listed_if}
 use Rattle.walk.specs.Founds.{HasAdded}
-use Rattle.items.proofs.Listed.{listed_none, listed_both, listed_twice}
-use Rattle.items.proofs.Splits.{split_kept}
+use Rattle.walk_items.proofs.Listed.{listed_none, listed_both, listed_twice}
+use Rattle.walk_items.proofs.Splits.{split_kept}
 use Rattle.book.specs.Books.{BookView, Keeps, KeepsWhere, with_deferred, IsOpenAt, AreOpenAt, AreWalksAt, HaveFound}
 use Rattle.book.specs.Books.{HaveSettled, settled, taken_in, remove_each, joined}
 use Rattle.book.proofs.PackedItems.{got-left}

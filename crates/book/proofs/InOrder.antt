@@ -1,6 +1,6 @@
 -- Items that stand in a list one after another: the first is left out with all before it.
 use Rattle.std.proofs.Common.{◌≡◌, ℕ, zero, suc, ◌<◌, List, [], ◌∷◌, length, get_or, drop, Some, slice_get, arith, inl, inr, sym, ◌∙◌}
-use Rattle.items.specs.Items.{ItemView}
+use Rattle.walk_items.specs.Items.{ItemView}
 use Rattle.book.specs.Books.{StandInOrder}
 
 -- those but the first stand there as well

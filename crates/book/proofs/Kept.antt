@@ -1,12 +1,12 @@
 -- What the type of a book keeps, whether it lists what its bound puts off or not.
 use Rattle.std.proofs.Common.{◌≡◌, ℕ, ◌≤◌, Bool, true, false, List, [], ◌++◌, sym, subst, arith}
 use Rattle.std.specs.List.{All}
-use Rattle.schedules.specs.Schedules.{begins_with}
-use Rattle.items.specs.Items.{covers}
-use Rattle.items.specs.Walks.{IsWithin, listed_if}
-use Rattle.items.proofs.ListParts.{all_right}
-use Rattle.items.proofs.Covers.{at_most_one, covers-append}
-use Rattle.items.proofs.WalkedItems.{HasItsOf, rest_has}
+use Rattle.semantics_schedules.specs.Schedules.{begins_with}
+use Rattle.walk_items.specs.Items.{covers}
+use Rattle.walk_items.specs.Walks.{IsWithin, listed_if}
+use Rattle.walk_items.proofs.ListParts.{all_right}
+use Rattle.walk_items.proofs.Covers.{at_most_one, covers-append}
+use Rattle.walk_items.proofs.WalkedItems.{HasItsOf, rest_has}
 use Rattle.book.specs.Books.{BookView, Keeps, KeepsWhere, IsBook, IsThinned, with_deferred, items_left}
 
 -- a book from which no item was dropped

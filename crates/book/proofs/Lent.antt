@@ -6,11 +6,11 @@ use Rattle.std.proofs.lemmas.List.Concat.{flat_map-append}
 use Rattle.std.proofs.lemmas.List.Edits.{remove-append_left}
 use Rattle.std.proofs.lemmas.List.Sorted.{IsPermutation-refl, IsPermutation-append_right, IsPermutation-append_comm, IsPermutation-trans}
 use Rattle.guest_code.specs.Program.{Program}
-use Rattle.summary.specs.Summaries.{join}
-use Rattle.items.specs.Items.{ItemView, AreOf, IsItem}
-use Rattle.items.specs.Walks.{IsBelow, items_at, listed_if}
-use Rattle.items.proofs.ListParts.{all_left, all_right}
-use Rattle.items.proofs.Splits.{split_permuted}
+use Rattle.walk_summary.specs.Summaries.{join}
+use Rattle.walk_items.specs.Items.{ItemView, AreOf, IsItem}
+use Rattle.walk_items.specs.Walks.{IsBelow, items_at, listed_if}
+use Rattle.walk_items.proofs.ListParts.{all_left, all_right}
+use Rattle.walk_items.proofs.Splits.{split_permuted}
 use Rattle.walk.specs.declared.found.Found.{Found}
 use Rattle.book.specs.ItemLists.{ListView, all_of}
 use Rattle.book.specs.Books.{BookView, Keeps, KeepsWhere, AreOpenAt, HaveFound, HaveSettled, with_deferred, places_from, remove_each, taken_in}

@@ -6,7 +6,7 @@ use Rattle.std.proofs.lemmas.List.{get_or-drop, take-append-drop, drop-drop, len
 use Rattle.std.proofs.lemmas.List.Edits.{remove-append_left, length-remove}
 use Rattle.std.proofs.lemmas.List.Elements.{All-head, All-tail}
 use Rattle.std.proofs.lemmas.Bool.{cases_lt}
-use Rattle.items.specs.Items.{ItemView}
+use Rattle.walk_items.specs.Items.{ItemView}
 use Rattle.book.specs.Books.{remove_each, AreWithin, AreOpenAt}
 
 pub parted : {A : Type 0} (l : List A) (k : ℕ) (i : A) → k < length l → slice_get l k ≡ Some i →

@@ -4,9 +4,9 @@ use Rattle.std.specs.List.{All}
 use Rattle.std.proofs.lemmas.List.{append-nil}
 use Rattle.std.proofs.lemmas.List.Elements.{All-weaker}
 use Rattle.guest_code.specs.Program.{Program}
-use Rattle.items.specs.Items.{ItemView, AreOf, IsItem}
-use Rattle.items.specs.Walks.{IsBelow, items_at, listed_if}
-use Rattle.items.proofs.ListParts.{all_left, all_right}
+use Rattle.walk_items.specs.Items.{ItemView, AreOf, IsItem}
+use Rattle.walk_items.specs.Walks.{IsBelow, items_at, listed_if}
+use Rattle.walk_items.proofs.ListParts.{all_left, all_right}
 use Rattle.book.specs.ItemLists.{ListView, all_of}
 use Rattle.book.specs.Books.{BookView, Keeps, KeepsWhere, with_deferred}
 use Rattle.book.proofs.PackedItems.{below_run, got-or}

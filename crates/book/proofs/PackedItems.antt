@@ -6,12 +6,12 @@ use Rattle.std.proofs.lemmas.Bool.{cases_lt}
 use Rattle.std.proofs.lemmas.List.{drop-map, take_all, drop_at, drop_all, drop-drop, drop-append-le, length-map, take-append-drop, get_or-take}
 use Rattle.guest_code.specs.Program.{Program}
 use Rattle.semantics.specs.Mask.{no_threads}
-use Rattle.items.specs.Items.{ItemView, AreOf, IsItem, item_at}
-use Rattle.prefix_list.specs.PrefixLists.{last_of, is_later}
-use Rattle.items.specs.Walks.{IsBelow, items_at}
-use Rattle.items.proofs.ListParts.{all_left, all_right}
+use Rattle.walk_items.specs.Items.{ItemView, AreOf, IsItem, item_at}
+use Rattle.walk_prefixes.specs.PrefixLists.{last_of, is_later}
+use Rattle.walk_items.specs.Walks.{IsBelow, items_at}
+use Rattle.walk_items.proofs.ListParts.{all_left, all_right}
 use Rattle.book.specs.ItemLists.{ListView, all_of}
-use Rattle.packed_items.proofs.LastItems.{items_of_both}
+use Rattle.walk_items.proofs.LastItems.{items_of_both}
 
 -- items that lie under another run
 pub below_run : (above : ItemView) (items : List ItemView) → All (IsBelow above) items →

@@ -4,9 +4,9 @@ use Rattle.std.proofs.Common.{length, take, drop, Some, slice_get, ap, ◌∙◌
 use Rattle.std.proofs.Common.{append_assoc, replicate, All, length-drop}
 use Rattle.std.proofs.lemmas.List.{take-append-drop, length-take-le}
 use Rattle.std.proofs.lemmas.List.Elements.{All-nil, All-cons, All-head, All-tail}
-use Rattle.summary.specs.Summaries.{SummaryView, nothing, join}
-use Rattle.items.specs.Items.{ItemView}
-use Rattle.items.specs.Walks.{WalkView}
+use Rattle.walk_summary.specs.Summaries.{SummaryView, nothing, join}
+use Rattle.walk_items.specs.Items.{ItemView}
+use Rattle.walk_items.specs.Walks.{WalkView}
 use Rattle.walk.specs.declared.found.Found.{Found}
 use Rattle.walk.specs.Founds.{HasAdded}
 use Rattle.book.specs.Books.{BookView, Keeps, IsOpenAt, AreOpenAt, AreWithin, AreWalksAt, HaveFound, IsWithinQuota}

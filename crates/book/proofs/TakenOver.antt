@@ -4,10 +4,10 @@ use Rattle.std.proofs.Common.{◌≡◌, ℕ, ◌≤◌, List, [], ◌∷◌, �
 use Rattle.std.specs.List.{remove}
 use Rattle.std.proofs.lemmas.List.{take_at}
 use Rattle.guest_code.specs.Program.{Program}
-use Rattle.summary.specs.Summaries.{SummaryView}
-use Rattle.items.specs.Items.{ItemView}
+use Rattle.walk_summary.specs.Summaries.{SummaryView}
+use Rattle.walk_items.specs.Items.{ItemView}
 use Rattle.walk.specs.declared.found.Found.{Found}
-use Rattle.items.specs.Walks.{items_at, listed_if}
+use Rattle.walk_items.specs.Walks.{items_at, listed_if}
 use Rattle.walk.specs.Founds.{found_walk}
 use Rattle.book.specs.ItemLists.{ListView, all_of}
 use Rattle.book.specs.Books.{BookView, settled, taken_in, remove_each, AreWithin}

@@ -2,10 +2,10 @@
 use Rattle.std.specs.Prelude.{◌≡◌, ℕ, ◌-◌, Bool, true, false, ◌⊎◌, List, [], ◌++◌, All, Some, length, take, drop, set, map, replicate, flat_map, slice_get}
 use Rattle.std.specs.List.Sorted.{IsPermutation}
 use Rattle.guest_code.specs.Program.{Program}
-use Rattle.summary.specs.Summaries.{SummaryView}
-use Rattle.items.specs.declared.mode.Mode.{Mode}
-use Rattle.items.specs.Items.{ItemView, AreOf, IsItem}
-use Rattle.items.specs.Walks.{items_at}
+use Rattle.walk_summary.specs.Summaries.{SummaryView}
+use Rattle.walk_items.specs.declared.mode.Mode.{Mode}
+use Rattle.walk_items.specs.Items.{ItemView, AreOf, IsItem}
+use Rattle.walk_items.specs.Walks.{items_at}
 use Rattle.book.specs.ItemLists.{ListView, all_of}
 use Rattle.book.specs.Books.{BookView}
 

@@ -2,31 +2,31 @@
 
 ghost use Rattle.std.specs.Prelude.{true, false, None, count_by, ◌≡◌, ◌<◌, ◌≤◌, ◌+◌, ◌-◌, ◌↔◌, [], length, drop, is_ok, if◌then◌else◌, IfOk, OnOk, IfErr, OnErr, Ok, IfSome, IfNone, IsTrue, slice_get, Some, All};
 ghost use Rattle.std.specs.Arc.{arc_value};
-ghost use Rattle.items.specs.declared.limits.TheConstants.{BOUND};
-ghost use Rattle.items.specs.declared.mode.Mode.TheVariants.{Bounded};
-ghost use Rattle.items.specs.Items.{whole, root_of, item_sum, AreOf};
-ghost use Rattle.items.specs.Walks.{IsWithin, listed_if};
+ghost use Rattle.walk_items.specs.declared.limits.TheConstants.{BOUND};
+ghost use Rattle.walk_items.specs.declared.mode.Mode.TheVariants.{Bounded};
+ghost use Rattle.walk_items.specs.Items.{whole, root_of, item_sum, AreOf};
+ghost use Rattle.walk_items.specs.Walks.{IsWithin, listed_if};
 ghost use Rattle.book.specs.declared.limits.TheConstants.{ROUND};
-ghost use Rattle.summary.specs.Summaries.{IsBoundedBy};
+ghost use Rattle.walk_summary.specs.Summaries.{IsBoundedBy};
 ghost use Rattle.book.specs.Books.{Keeps, drops, thinned, opening, opening_of, HasWalkedRound, HaveFound, HaveSettled, AreNotTaken, taken_in, remove_each, AreWithin, Settles, IsRefused, Raises, IsNotRaised, IsClosed, bound_of, made_last};
 
 use crate::errors::{RaiseError, SettleError};
 use crate::item_list::ItemList;
 use crate::limits::ROUND;
 use guest_code::program::Program;
-use items::item::{Item, same_masks};
-use items::limits::BOUND;
-use items::mode::Mode;
-use prefix_list::{Prefixes, is_later};
 use semantics::mask::Mask;
 use std::alloc::{AllocError, Global};
 use std::marker::Model;
 use std::mem;
 use std::sync::Arc;
-use summary::{EndHints, Summary};
 use walk::found::Found;
 use walk::walked::Walked;
 use walk::walker::Walker;
+use walk_items::item::{Item, same_masks};
+use walk_items::limits::BOUND;
+use walk_items::mode::Mode;
+use walk_prefixes::{Prefixes, is_later};
+use walk_summary::{EndHints, Summary};
 
 /// The book of a search of an item's schedules in a mode: the summary of what is finished, the
 /// items that are still open, and those deferred to the next bound. For all schedules of a program

@@ -3,24 +3,24 @@
 ghost use Rattle.std.specs.Prelude.{◌≡◌, ℕ, ◌+◌, ◌-◌, ◌<◌, ◌≤◌, ◌↔◌, [], ◌∷◌, ◌++◌, false, not, length, take, drop, filter, count_by, is_ok, if◌then◌else◌, IfOk, OnOk, IfSome, IfNone, IsTrue, Some, slice_get, slice_index_or, All};
 ghost use Rattle.std.specs.Arc.{arc_value};
 ghost use Rattle.guest_code.specs.Program.{Program};
-ghost use Rattle.items.specs.Items.{ItemView, AreOf, IsItem};
-ghost use Rattle.items.specs.Walks.{items_at};
-ghost use Rattle.prefix_list.specs.PrefixLists.{is_later};
+ghost use Rattle.walk_items.specs.Items.{ItemView, AreOf, IsItem};
+ghost use Rattle.walk_items.specs.Walks.{items_at};
+ghost use Rattle.walk_prefixes.specs.PrefixLists.{is_later};
 ghost use Rattle.book.specs.ItemLists.{all_of};
 ghost use Rattle.std.specs.List.{remove_range};
 ghost use Rattle.book.specs.Books.{remove_each, AreWithin, AreOpenAt, StandInOrder};
 
 use crate::limits::ROUND;
 use guest_code::program::Program;
-use items::item::{Item, same_masks};
-use packed_items::{last_item, unpack_last_into};
-use prefix_list::{Prefixes, is_later};
 use semantics::mask::Mask;
 use std::alloc::{AllocError, Global};
 use std::collections::VecDeque;
 use std::marker::Model;
 use std::mem;
 use std::sync::Arc;
+use walk_items::item::{Item, same_masks};
+use walk_items::packed::{last_item, unpack_last_into};
+use walk_prefixes::{Prefixes, is_later};
 
 // A list of items of one program, which the caller knows. First come packed items: prefixes after
 // which no thread sleeps, a few bytes each. Then, in a queue, come unpacked ones, which were

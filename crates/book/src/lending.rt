@@ -1,7 +1,7 @@
 //! Books that lend open items to workers.
 
 ghost use Rattle.std.specs.Prelude.{◌≡◌, ◌≤◌, [], true, false, Ok, IfOk, length, set};
-ghost use Rattle.summary.specs.Summaries.{cut};
+ghost use Rattle.walk_summary.specs.Summaries.{cut};
 ghost use Rattle.book.specs.ItemLists.{all_of};
 ghost use Rattle.book.specs.Books.{Keeps, HaveFound, HaveSettled, places_from};
 ghost use Rattle.book.specs.Lending.{as_book, lending, Reorders, IsLoanOf, Has, Lends, IsNotSettled};
@@ -11,13 +11,13 @@ use crate::books::{Book, listed_prefixes};
 use crate::item_list::ItemList;
 use crate::loan::Loan;
 use crate::progress::{Progress, mode_bound};
-use items::item::Item;
-use items::mode::Mode;
-use prefix_list::Prefixes;
 use std::alloc::{AllocError, Global};
 use std::marker::Model;
-use summary::{EndHints, Summary};
 use walk::found::Found;
+use walk_items::item::Item;
+use walk_items::mode::Mode;
+use walk_prefixes::Prefixes;
+use walk_summary::{EndHints, Summary};
 
 /// A book that lends open items to workers, which walk them as rounds of their own. A lent item is
 /// still open, and comes before the free items, which are lent to nobody. No item was dropped from

@@ -2,16 +2,16 @@
 
 ghost use Rattle.std.specs.Prelude.{◌≡◌, [], OnOk};
 ghost use Rattle.std.specs.Arc.{arc_value};
-ghost use Rattle.items.specs.Items.{AreOf};
+ghost use Rattle.walk_items.specs.Items.{AreOf};
 ghost use Rattle.book.specs.ItemLists.{all_of};
 ghost use Rattle.book.specs.Lending.{IsLoanOf};
 
 use crate::item_list::ItemList;
 use guest_code::program::Program;
-use items::item::Item;
 use std::alloc::{AllocError, Global};
 use std::marker::Model;
 use std::sync::Arc;
+use walk_items::item::Item;
 
 /// Copies of the open items that a book has lent to a worker, which walks them as a round of its
 /// own.

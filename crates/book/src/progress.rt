@@ -4,7 +4,7 @@ ghost use Rattle.std.specs.Prelude.{◌≡◌};
 ghost use Rattle.book.specs.Progress.{IsProgressOf, mode_bound};
 
 use crate::books::Book;
-use items::mode::Mode;
+use walk_items::mode::Mode;
 
 /// How far a search is after a round.
 #[derive(Clone, Copy)]

@@ -2,14 +2,14 @@
 use Rattle.std.specs.Prelude.{◌≡◌, ℕ, List, Bool, true, false}
 use Rattle.std.specs.List.{flat_map}
 use Rattle.guest_code.specs.Program.{Program}
-use Rattle.report.specs.Texts.{IsProgramOf}
-use Rattle.items.specs.declared.limits.TheConstants.{BOUND}
-use Rattle.items.specs.declared.mode.Mode.{Mode}
-use Rattle.items.specs.declared.mode.Mode.TheVariants.{Bounded, Reduced}
-use Rattle.items.specs.Items.{ItemView}
-use Rattle.answering.specs.declared.answer.Printed.{Printed}
-use Rattle.answering.specs.declared.request.PrefixesRequest.{PrefixesRequest}
-use Rattle.cover.specs.Prefixes.{IsListOf, prefix_line}
+use Rattle.runner_report.specs.Texts.{IsProgramOf}
+use Rattle.walk_items.specs.declared.limits.TheConstants.{BOUND}
+use Rattle.walk_items.specs.declared.mode.Mode.{Mode}
+use Rattle.walk_items.specs.declared.mode.Mode.TheVariants.{Bounded, Reduced}
+use Rattle.walk_items.specs.Items.{ItemView}
+use Rattle.ctxbound_answers.specs.declared.answer.Printed.{Printed}
+use Rattle.ctxbound_answers.specs.declared.request.PrefixesRequest.{PrefixesRequest}
+use Rattle.walk_cover.specs.Prefixes.{IsListOf, prefix_line}
 
 -- the mode whose prefixes are listed; a prefix may have more preemptions than the bound
 abbrev pub listing_mode : Bool → Mode

@@ -5,14 +5,14 @@ use Rattle.std.specs.Option.{option_map_or}
 use Rattle.std.specs.List.{flat_map}
 use Rattle.guest_code.specs.Program.{Program}
 use Rattle.replay.specs.Spelling.{Spells}
-use Rattle.report.specs.declared.level.Level.{Level}
-use Rattle.report.specs.declared.report.Cause.{Cause}
-use Rattle.report.specs.Texts.{IsProgramOf}
-use Rattle.parts.specs.declared.guest.GuestDigest.{GuestDigest}
-use Rattle.parts.specs.PartText.{guest_of, part_text}
-use Rattle.joining.specs.Found.{AreLevelsUnder}
-use Rattle.answering.specs.declared.answer.Printed.{Printed}
-use Rattle.answering.specs.declared.request.UnderRequest.{UnderRequest}
+use Rattle.runner_report.specs.declared.level.Level.{Level}
+use Rattle.runner_report.specs.declared.report.Cause.{Cause}
+use Rattle.runner_report.specs.Texts.{IsProgramOf}
+use Rattle.runner_parts.specs.declared.guest.GuestDigest.{GuestDigest}
+use Rattle.runner_parts.specs.PartText.{guest_of, part_text}
+use Rattle.runner_joining.specs.Found.{AreLevelsUnder}
+use Rattle.ctxbound_answers.specs.declared.answer.Printed.{Printed}
+use Rattle.ctxbound_answers.specs.declared.request.UnderRequest.{UnderRequest}
 
 -- the line of a level
 abbrev pub level_line : GuestDigest → List ℕ → Level → List ℕ

@@ -2,8 +2,8 @@
 
 use crate::diagnostics::diagnostics_text;
 use crate::files::{GuestFile, guest_files};
-use advice::{Checked, advice_text, check};
-use answering::{
+use check_advice::{Checked, advice_text, check};
+use ctxbound_answers::{
     CheckForm, CheckRequest, CommandFault, Fault, Printed, REFUSED, read_file, write_printed,
 };
 use std::alloc::{Alloc, AllocError, Global};

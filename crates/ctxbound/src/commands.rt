@@ -8,14 +8,14 @@ use crate::prefixes::list_prefixes;
 use crate::suites::serve_suite;
 use crate::under::search_under;
 use crate::verified::verify_guest;
-use answering::{
+use ctxbound_answers::{
     CommandFault, ExplainForm, ExplainRequest, Fault, Host, JoinRequest, PrefixesRequest, Printed,
     REFUSED, Request, UnderRequest, VerifyRequest, answer_to, serve_file, write_printed,
 };
-use explained::{Text, explain_text};
+use ctxbound_explained::{Text, explain_text};
+use ctxbound_words::parse_request;
 use std::fs::Files;
 use std::io::{Input, Write};
-use words::parse_request;
 
 /// Does what the words of a command line ask for: the answer goes to `out`, the lines of faults to
 /// `err`. If `is_seen`, a person reads `err`: where a guest's text is refused, it is also told

@@ -1,10 +1,10 @@
 //! What a check tells, for editors: a line or a JSON object for each refusal, warning and remark.
 
-use advice::{Checked, Diagnostic, Span};
+use check_advice::{Checked, Diagnostic, Span};
+use explain_lines::Marks;
 use serde_json::{Map, Value, json, put};
 use std::alloc::{AllocError, Global};
 use std::fmt::Write;
-use text_lines::Marks;
 
 /// A line for each refusal, warning and remark on a text that was read from this file: a JSON
 /// object if `is_json`, else `FILE:LINE:COLUMN: warning W5 NeverLoaded: MESSAGE`, where a refusal

@@ -1,6 +1,6 @@
 //! The files of guest programs that the command words name.
 
-use answering::{CommandFault, read_file};
+use ctxbound_answers::{CommandFault, read_file};
 use std::alloc::{Alloc, AllocError, Global};
 use std::fs::Files;
 use std::io::{ErrorKind, Input};

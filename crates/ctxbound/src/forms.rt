@@ -1,10 +1,10 @@
 //! The formats of an explanation beside text in columns: JSON and an HTML page.
 
-use explain::{Explanation, Source};
+use ctxbound_explained::{Explained, Output, Render, has_fewest_preemptions, no_schedule_text};
 use explain_json::{explanation_json, no_schedule_json};
 use explain_page::{explanation_html, no_schedule_html};
+use explain_run::{Explanation, Source};
 use explain_text::{Layout, why_text};
-use explained::{Explained, Output, Render, has_fewest_preemptions, no_schedule_text};
 use runner::{Report, report_value};
 use std::alloc::Global;
 

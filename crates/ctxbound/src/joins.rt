@@ -2,20 +2,20 @@
 
 ghost use Rattle.std.specs.Prelude.{◌≡◌, IfOk, IfErr};
 ghost use Rattle.std.specs.Arc.{arc_value};
-ghost use Rattle.joining.specs.Parts.{JoinErrorMeans};
+ghost use Rattle.runner_joining.specs.Parts.{JoinErrorMeans};
 ghost use Rattle.ctxbound.specs.Joins.{IsJoined, error_status};
 
-use answering::{CommandFault, Fault, JoinRequest, Printed, REFUSED, read_bytes};
+use ctxbound_answers::{CommandFault, Fault, JoinRequest, Printed, REFUSED, read_bytes};
+use ctxbound_verify::program_of;
 use guest_code::program::Program;
-use joining::{JoinError, join};
-use parts::{Part, PartError, first_of_another, parts_from};
 use replay::schedule_text;
-use report::Search;
+use runner_joining::{JoinError, join};
+use runner_parts::{Part, PartError, first_of_another, parts_from};
+use runner_report::Search;
 use std::alloc::{Alloc, Global};
 use std::fs::Files;
 use std::io::Input;
 use std::sync::Arc;
-use verify::program_of;
 
 /// Reads the parts in the files of a request, joins them to the report on the guest program that
 /// `text` spells, and answers what is printed of the report.

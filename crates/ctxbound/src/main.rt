@@ -1,9 +1,10 @@
 //! The program `ctxbound`: what the command words ask for, done on a guest program.
 //!
-//! The crate `words` reads the words, `commands` does what they ask for, and `main` joins both to
-//! the system. What is answered to a replay or a search is in the crate `answering`, and what an
-//! explanation answers in `explained`; `forms` has its formats beside text. The other commands are
-//! in `checks`, `suites`, `verified`, `prefixes` and `joins`; `under` has searches under a prefix.
+//! The crate `ctxbound_words` reads the words, `commands` does what they ask for, and `main` joins
+//! both to the system. What is answered to a replay or a search is in the crate `ctxbound_answers`,
+//! and what an explanation answers in `ctxbound_explained`; `forms` has its formats beside text.
+//! The other commands are in `checks`, `suites`, `verified`, `prefixes` and `joins`; `under` has
+//! searches under a prefix.
 #![tactic(auto)]
 
 mod checks;
@@ -18,9 +19,9 @@ mod under;
 mod verified;
 
 use crate::commands::serve_command;
+use ctxbound_words::command_words;
 use std::io::IsTerminal;
 use std::process::ExitCode;
-use words::command_words;
 
 // Does what the command line asks for, or reports why it can't be read, and ends with the status.
 fn main(rt: HostRuntime) -> ExitCode {

@@ -1,15 +1,15 @@
 //! The command `prefixes`.
 
 ghost use Rattle.std.specs.Prelude.{◌≡◌, None, IfOk, IfErr};
-ghost use Rattle.answering.specs.Answer.{FaultMeans};
+ghost use Rattle.ctxbound_answers.specs.Answer.{FaultMeans};
 ghost use Rattle.ctxbound.specs.Prefixes.{listing_mode, IsListingOf};
 
-use answering::{Fault, PrefixesRequest, Printed};
-use cover::{prefix_lines, prefixes};
-use items::limits::BOUND;
-use items::mode::Mode;
+use ctxbound_answers::{Fault, PrefixesRequest, Printed};
+use ctxbound_verify::program_of;
 use std::alloc::Global;
-use verify::program_of;
+use walk_cover::{prefix_lines, prefixes};
+use walk_items::limits::BOUND;
+use walk_items::mode::Mode;
 
 /// A line for each prefix of the schedules of the program that a text spells, of the least length
 /// at which there are as many prefixes as are asked for, or more; a shorter complete schedule counts

@@ -1,13 +1,13 @@
 //! The command `suite`.
 
 use crate::files::{GuestFile, guest_files};
-use answering::{CommandFault, Host, STANDARD_OUTPUT, SuiteRequest, write_out};
+use ctxbound_answers::{CommandFault, Host, STANDARD_OUTPUT, SuiteRequest, write_out};
+use ctxbound_suite::{Entry, Outcome, Table, Tally, json_line};
+use explain_lines::Marks;
 use runner::ExploreError;
 use std::fs::Files;
 use std::io;
 use std::io::{ErrorKind, Input, Write};
-use suite::{Entry, Outcome, Table, Tally, json_line};
-use text_lines::Marks;
 
 /// Searches each file of a suite, and writes what became of it to `out` as soon as that is known.
 /// Answers the greatest of the files' statuses; where `out` can't be written or memory runs out,

@@ -3,24 +3,24 @@
 ghost use Rattle.std.specs.Prelude.{◌≡◌, ℕ, List, Some, IfOk, IfErr, string_bytes};
 ghost use Rattle.std.specs.Arc.{arc_value};
 ghost use Rattle.std.specs.List.{flat_map};
-ghost use Rattle.answering.specs.Answer.{FaultMeans};
-ghost use Rattle.joining.specs.Found.{AreLevelsUnder};
+ghost use Rattle.ctxbound_answers.specs.Answer.{FaultMeans};
+ghost use Rattle.runner_joining.specs.Found.{AreLevelsUnder};
 ghost use Rattle.ctxbound.specs.Under.{level_line, last_status, IsSearchUnder};
 ghost use Rattle.replay.specs.Spelling.{Spells};
-ghost use Rattle.report.specs.Texts.{IsProgramOf};
+ghost use Rattle.runner_report.specs.Texts.{IsProgramOf};
 
-use answering::{Exploration, Fault, Host, Printed, ProgressGate, UnderRequest};
-use cover::item_under;
+use ctxbound_answers::{Exploration, Fault, Host, Printed, ProgressGate, UnderRequest};
+use ctxbound_verify::program_of;
 use guest_code::program::Program;
-use joining::last_mode;
-use parts::{GuestDigest, Part, part_line};
 use replay::schedule_from;
-use report::Level;
 use runner::explore_under;
+use runner_joining::last_mode;
+use runner_parts::{GuestDigest, Part, part_line};
+use runner_report::Level;
 use std::alloc::{AllocError, Global};
 use std::sync::Arc;
-use summary::Summary;
-use verify::program_of;
+use walk_cover::item_under;
+use walk_summary::Summary;
 
 /// What is printed of a search under a prefix of the schedules of the program that a text spells: a
 /// part, which is a line, for each bound. Nothing is printed before the search has ended, so that a

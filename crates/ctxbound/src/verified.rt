@@ -1,17 +1,17 @@
 //! The command `verify`.
 
-use advice::{Checked, Diagnostic, check};
-use answering::{Fault, Host, Printed, VerifyRequest};
-use explained::run_out_text;
+use check_advice::{Checked, Diagnostic, check};
+use check_hints::pieces::pieces;
+use ctxbound_answers::{Fault, Host, Printed, VerifyRequest};
+use ctxbound_explained::run_out_text;
+use ctxbound_verify::{BadSchedule, Correctness, Preemptions, verify_text};
+use explain_lines::{Count, Marks};
 use guest_syntax::pieces::Piece;
-use hints::pieces::pieces;
 use replay::schedule_text;
 use semantics::view::Kind;
 use std::alloc::{AllocError, Global};
 use std::fmt::Write;
 use std::io;
-use text_lines::{Count, Marks};
-use verify::{BadSchedule, Correctness, Preemptions, verify_text};
 
 /// Up to how many schedules it is looked for caveats to the answer that a program is right.
 const CAVEAT_DEPTH: u64 = 1_000_000;

@@ -1,15 +1,15 @@
 //! What the JSON of an explanation tells, and the names of threads, objects and locals in it.
 
 use crate::places::{StatementEnds, statement_ends};
-use causes::{Causes, Turns};
-use explain::{Explanation, Object, Source, Statement, Step, name_text};
+use explain_cause::{Causes, Turns};
+use explain_lines::Marks;
+use explain_run::{Explanation, Object, Source, Statement, Step, name_text};
+use explain_waits::Waits;
 use guest_code::limits::THREADS;
 use replay::{Act, schedule_text};
 use semantics::mask::Mask;
 use serde_json::Value;
 use std::alloc::{AllocError, Global};
-use text_lines::Marks;
-use waits::Waits;
 
 /// What the JSON of an explanation is written from.
 #[derive(Drop)]

@@ -4,8 +4,8 @@
 use crate::facts::Facts;
 use crate::words::stop_reason_word;
 use crate::writer::{Writer, Written};
-use causes::{Event, next_change, unchanged_since};
-use explain::Object;
+use explain_cause::{Event, next_change, unchanged_since};
+use explain_run::Object;
 use guest_code::program::{Expression, Instruction, Value};
 use semantics::state::Stop;
 use serde::Serializer;

@@ -1,7 +1,7 @@
 //! The explanation as JSON.
 
 use crate::facts::Facts;
-use explain::{Explanation, Source};
+use explain_run::{Explanation, Source};
 use serde_json::{Value, json};
 use std::alloc::{AllocError, Global};
 

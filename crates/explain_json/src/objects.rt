@@ -1,7 +1,7 @@
 //! The states of a guest's objects before the first step, and after each step.
 
 use crate::facts::Facts;
-use explain::{Object, ObjectState, Step};
+use explain_run::{Object, ObjectState, Step};
 use serde::Serialize;
 use std::alloc::AllocError;
 use std::collections::BTreeMap;

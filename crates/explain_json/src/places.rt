@@ -2,7 +2,7 @@
 
 use crate::facts::Facts;
 use crate::writer::{Writer, Written};
-use explain::{Statement, name_text};
+use explain_run::{Statement, name_text};
 use guest_syntax::Pos;
 use guest_syntax::pieces::Pieces;
 use serde::{Serialize, Serializer};

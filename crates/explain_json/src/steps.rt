@@ -3,7 +3,7 @@
 use crate::objects::ObjectStates;
 use crate::words::{act_word, stop_reason_word};
 use crate::writer::{Writer, Written};
-use explain::{Assignment, Object, ObjectState, Step};
+use explain_run::{Assignment, Object, ObjectState, Step};
 use guest_code::program::Instruction;
 use serde::Serializer;
 

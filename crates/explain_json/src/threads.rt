@@ -4,11 +4,11 @@ use crate::facts::Facts;
 use crate::objects::ByName;
 use crate::words::{thread_status_word, wait_reason_word};
 use crate::writer::{Writer, Written};
-use explain::{Object, Reason, Statement, ThreadState};
+use explain_run::{Object, Reason, Statement, ThreadState};
+use explain_waits::{Fate, Wait};
 use serde::Serializer;
 use std::alloc::AllocError;
 use std::collections::{BTreeMap, BTreeSet};
-use waits::{Fate, Wait};
 
 /// A statement that could end a wait: whether its thread comes to it if it goes on, or may come to
 /// it, the places of the steps that carried it out, and the jumps over it by their places in the

@@ -1,6 +1,6 @@
 //! The words by which the JSON of an explanation tells how things are, such as `stuck` or `signal`.
 
-use explain::{Reason, ThreadState};
+use explain_run::{Reason, ThreadState};
 use replay::Act;
 use semantics::state::{Status, Stop};
 use semantics::view::Kind;

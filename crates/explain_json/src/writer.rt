@@ -3,7 +3,7 @@
 use crate::facts::Facts;
 use crate::objects::ObjectStates;
 use crate::words::{kind_word, stop_reason_word};
-use explain::{Object, name_text};
+use explain_run::{Object, name_text};
 use serde::{Described, Serialize, Serializer};
 use std::alloc::AllocError;
 

@@ -1,8 +1,8 @@
 //! The explanation of a schedule as a page of HTML.
 
 use crate::page::{HEAD, PAGE_BEGIN, PAGE_END, SENTENCE_BEGIN, SENTENCE_END, SENTENCE_MIDDLE};
-use explain::{Explanation, Source};
 use explain_json::page_json;
+use explain_run::{Explanation, Source};
 use serde_json::Value;
 use std::alloc::{AllocError, Global};
 

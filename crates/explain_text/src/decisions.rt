@@ -2,11 +2,11 @@
 
 use crate::origins::ValueLayout;
 use crate::text::TextWriter;
-use causes::{Event, is_decided};
+use explain_cause::{Event, is_decided};
+use explain_lines::Page;
 use guest_code::program::Instruction;
 use std::alloc::AllocError;
 use std::collections::BTreeSet;
-use text_lines::Page;
 
 const MOST_TESTS: usize = 4;
 /// The column at which the line of a test begins.

@@ -2,12 +2,12 @@
 
 use crate::origins::ValueLayout;
 use crate::text::TextWriter;
-use causes::{Event, Failure};
-use explain::{Holder, Object, Repeat};
+use explain_cause::{Event, Failure};
+use explain_lines::{Count, InLine, Page};
+use explain_run::{Holder, Object, Repeat};
 use guest_code::program::Instruction;
 use semantics::view::Kind;
 use std::alloc::AllocError;
-use text_lines::{Count, InLine, Page};
 
 /// The column at which a line begins that says why a thread stopped in an error.
 const REASON_INDENT: usize = 4;

@@ -1,11 +1,11 @@
 //! Where the values of locals came from.
 
 use crate::text::TextWriter;
-use causes::{Event, next_change, unchanged_since};
-use explain::{Object, ObjectState};
+use explain_cause::{Event, next_change, unchanged_since};
+use explain_lines::Page;
+use explain_run::{Object, ObjectState};
 use guest_code::program::{Expression, Instruction, Value};
 use std::alloc::AllocError;
-use text_lines::Page;
 
 /// How many columns further to the right the locals are shown of which a value was computed.
 const NESTING: usize = 2;

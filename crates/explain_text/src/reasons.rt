@@ -1,14 +1,14 @@
 //! Why threads can't go on. In a circle each thread waits, perhaps through others, for each.
 
 use crate::text::{TextWriter, push_entry};
-use explain::{Holder, Object, Reason};
+use explain_lines::{Page, width_of};
+use explain_run::{Holder, Object, Reason};
+use explain_waits::Wait;
 use replay::Act;
 use semantics::mask::Mask;
 use semantics::state::Status;
 use semantics::view::Kind;
 use std::alloc::AllocError;
-use text_lines::{Page, width_of};
-use waits::Wait;
 
 /// The column at which what doesn't fit into a line goes on in the next one.
 const INDENT: usize = 6;

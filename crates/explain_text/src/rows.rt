@@ -1,17 +1,17 @@
 //! The rows of the table of the steps.
 
 use crate::text::{TextWriter, push_entry};
-use explain::{Object, ObjectState, Step, ThreadState, op_text};
+use explain_lines::{
+    Content, Count, GAP, InLine, Page, STEP, line_cell, pad_to, put_repeated, put_truncated,
+    width_of,
+};
+use explain_run::{Object, ObjectState, Step, ThreadState, op_text};
 use guest_code::program::{Expression, Instruction, Value};
 use replay::Act;
 use semantics::state::Stop;
 use semantics::view::Kind;
 use std::alloc::AllocError;
 use std::collections::BTreeSet;
-use text_lines::{
-    Content, Count, GAP, InLine, Page, STEP, line_cell, pad_to, put_repeated, put_truncated,
-    width_of,
-};
 
 /// The fewest columns that are left of a thread's name before a statement in a shared column.
 const SHORTEST_LABEL: usize = 4;

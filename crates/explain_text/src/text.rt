@@ -1,14 +1,14 @@
 //! The explanation of a schedule as text, and the names and places that its parts tell.
 
-use causes::{Causes, Event, InTurns, Turns};
-use explain::{Explanation, Object, Source, Statement, Step, name_text};
+use explain_cause::{Causes, Event, InTurns, Turns};
+use explain_lines::{Columns, FileLine, InLine, Marks, Page};
+use explain_run::{Explanation, Object, Source, Statement, Step, name_text};
+use explain_waits::Waits;
 use guest_code::program::Instruction;
 use replay::schedule_text;
 use std::alloc::{AllocError, Global};
 use std::fmt;
 use std::str::from_utf8;
-use text_lines::{Columns, FileLine, InLine, Marks, Page};
-use waits::Waits;
 
 /// How wide the text of an explanation is, and which steps have rows.
 #[derive(Clone, Copy)]

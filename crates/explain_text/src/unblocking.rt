@@ -2,14 +2,14 @@
 
 use crate::origins::ValueLayout;
 use crate::text::{TextWriter, push_entry};
-use causes::Event;
-use explain::{Object, Reason};
+use explain_cause::Event;
+use explain_lines::Page;
+use explain_run::{Object, Reason};
+use explain_waits::{Fate, Statement, Wait};
 use guest_code::program::Instruction;
 use replay::Act;
 use std::alloc::AllocError;
 use std::collections::{BTreeMap, BTreeSet};
-use text_lines::Page;
-use waits::{Fate, Statement, Wait};
 
 /// The column at which what doesn't fit into a line goes on in the next one.
 const INDENT: usize = 6;

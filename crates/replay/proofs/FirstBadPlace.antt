@@ -3,8 +3,8 @@ use Rattle.std.proofs.Common.{◌≡◌, ℕ, zero, suc, ◌<◌, true, false, �
 use Rattle.std.proofs.lemmas.Bool.{false≢true}
 use Rattle.guest_code.specs.Program.{Program}
 use Rattle.semantics.specs.Machine.{Snapshot, is_enabled, step, start}
-use Rattle.schedules.specs.Schedules.{state_after, runs}
-use Rattle.schedules.proofs.UnfoldingUnderPrefix.{and_true}
+use Rattle.semantics_schedules.specs.Schedules.{state_after, runs}
+use Rattle.semantics_schedules.proofs.UnfoldingUnderPrefix.{and_true}
 use Rattle.replay.specs.Run.{IsFirstBad}
 
 -- a schedule with a bad place after steps that run doesn't run

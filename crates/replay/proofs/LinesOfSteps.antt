@@ -6,9 +6,9 @@ use Rattle.std.proofs.lemmas.List.Elements.{filter-append}
 use Rattle.guest_code.specs.Program.{Program}
 use Rattle.semantics.specs.Machine.{Snapshot, next_of, is_enabled, step, start}
 use Rattle.semantics.specs.Work.{up_from}
-use Rattle.schedules.specs.Schedules.{state_after, last_of, last_after}
-use Rattle.schedules.specs.Execution.{ExecutionView, Reaches, stepped}
-use Rattle.schedules.proofs.Executions.{reaches_step, reaches_few}
+use Rattle.semantics_schedules.specs.Schedules.{state_after, last_of, last_after}
+use Rattle.semantics_schedules.specs.Execution.{ExecutionView, Reaches, stepped}
+use Rattle.semantics_schedules.proofs.Executions.{reaches_step, reaches_few}
 use Rattle.replay.specs.declared.run.Line.{Line}
 use Rattle.replay.specs.declared.error.ReplayError.{ReplayError}
 use Rattle.replay.specs.declared.error.ReplayError.TheVariants.{NoSuchThread, NotEnabled, OutOfMemory}

@@ -14,13 +14,13 @@ use Rattle.semantics.specs.declared.state.ConditionAction.TheVariants.{Signal as
 use Rattle.semantics.specs.declared.state.SemaphoreAction.TheVariants.{Acquire as Acquires}
 use Rattle.semantics.specs.Machine.{Snapshot, thread_at, next_of, can_do, is_enabled, step, start}
 use Rattle.semantics.specs.Work.{up_from}
-use Rattle.schedules.specs.Schedules.{runs, state_after}
+use Rattle.semantics_schedules.specs.Schedules.{runs, state_after}
 use Rattle.semantics.specs.Ends.{is_stopped}
 use Rattle.semantics.specs.Reachable.{IsOf, IsValidAction}
 use Rattle.semantics.proofs.ValidActions.{valid_action_at}
 use Rattle.semantics.proofs.WorkFalls.{enabled_below}
 use Rattle.semantics.proofs.StepsKeepStates.{step_is_of}
-use Rattle.schedules.proofs.UnfoldingUnderPrefix.{and_true}
+use Rattle.semantics_schedules.proofs.UnfoldingUnderPrefix.{and_true}
 use Rattle.replay.specs.Run.{Run, act_of, line_at, line_of, lines_from, stopped_in, IsRunOf}
 use Rattle.replay.specs.Trace.{IsValidAct, IsValidLine, IsValidRun}
 

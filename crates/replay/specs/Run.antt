@@ -11,7 +11,7 @@ use Rattle.semantics.specs.declared.state.Action.TheVariants.{OnVariable, OnMute
 use Rattle.semantics.specs.declared.view.Kind.{Kind}
 use Rattle.semantics.specs.Machine.{Snapshot, thread_at, next_of, value_of, value_of_operand, is_expected, var_after, is_enabled, step, start}
 use Rattle.semantics.specs.Work.{up_from}
-use Rattle.schedules.specs.Schedules.{state_after, runs, preempts, preemptions}
+use Rattle.semantics_schedules.specs.Schedules.{state_after, runs, preempts, preemptions}
 use Rattle.semantics.specs.Ends.{is_stopped, stop_of, kind_of}
 use Rattle.replay.specs.declared.run.Act.{Act}
 use Rattle.replay.specs.declared.run.Act.TheVariants.{Load, Store, Add, Cas, Lock, Unlock, Wait, Retake, Signal, Broadcast, Acquire, Release}

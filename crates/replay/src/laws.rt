@@ -3,7 +3,7 @@
 ghost use Rattle.std.specs.Prelude.{◌≡◌, ◌≢◌, ◌<◌, ◌^◌, ◌++◌, ◌∷◌, ℕ, List, All, length, map, false};
 ghost use Rattle.guest_code.specs.Program.{Program, IsWellFormed};
 ghost use Rattle.semantics.specs.Machine.{start};
-ghost use Rattle.schedules.specs.Schedules.{runs};
+ghost use Rattle.semantics_schedules.specs.Schedules.{runs};
 ghost use Rattle.replay.specs.Run.{Run, IsFirstBad, IsRunOf};
 ghost use Rattle.replay.specs.Trace.{IsValidRun};
 ghost use Rattle.replay.specs.Spelling.{Spells, IsBadAt, IsTooLongAt, ScheduleErrorMeans, printed, pieces_of, piece_text, runs_of, steps_of};

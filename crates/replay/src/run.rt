@@ -4,7 +4,7 @@ ghost use Rattle.std.specs.Prelude.{◌≡◌, ◌+◌, ◌^◌, ◌<◌, length
 ghost use Rattle.guest_code.specs.Program.{Program};
 ghost use Rattle.semantics.specs.Reachable.{IsOf, IsValidAction, IsValidAccess};
 ghost use Rattle.semantics.specs.Ends.{is_stopped};
-ghost use Rattle.schedules.specs.Execution.{IsExecutionOf};
+ghost use Rattle.semantics_schedules.specs.Execution.{IsExecutionOf};
 ghost use Rattle.semantics.specs.declared.state.Action.TheVariants.{OnVariable};
 ghost use Rattle.replay.specs.Run.{act_of, stopped_in, IsRunOf, ReplayErrorMeans};
 ghost use Rattle.replay.specs.inner.Step.{IsStepOf, RefusalMeans};
@@ -12,11 +12,11 @@ ghost use Rattle.replay.specs.Trace.{IsValidAct, IsValidRun};
 
 use crate::error::ReplayError;
 use guest_code::program::Program;
-use schedules::execution::Execution;
 use semantics::state::{
     Action, ConditionAction, MutexAction, SemaphoreAction, State, Status, Stop, VariableAction,
 };
 use semantics::view::Kind;
+use semantics_schedules::execution::Execution;
 use std::alloc::{AllocError, Global};
 use std::marker::Model;
 

@@ -9,7 +9,7 @@ ghost use Rattle.replay.specs.inner.Piece.{RefusalMeans};
 
 use crate::error::ScheduleError;
 use crate::piece::{Piece, piece_of, push_steps, put_piece};
-use schedules::limits::STEPS;
+use semantics_schedules::limits::STEPS;
 use std::alloc::{AllocError, Global};
 
 /// The most places, one for each step, of a schedule that is read from a text: the limit of steps.

@@ -5,25 +5,25 @@ use Rattle.std.proofs.Common.{refl, subst, arith, Vec, Global}
 use Rattle.std.proofs.lemmas.Bool.{cases_lt}
 use Rattle.std.proofs.lemmas.Bool.Decides.{nat_tests}
 use Rattle.guest_code.specs.Program.{Program}
-use Rattle.schedules.specs.Schedules.{preemptions}
-use Rattle.items.specs.declared.mode.Mode.{Mode}
-use Rattle.items.specs.declared.mode.Mode.TheVariants.{Bounded, Reduced}
-use Rattle.items.specs.declared.limits.TheConstants.{BOUND}
-use Rattle.summary.specs.Summaries.{SummaryView, nothing, with_beyond, sum_of}
-use Rattle.summary.proofs.SumsJoin.{sum_of_none}
-use Rattle.items.specs.Items.{root_of}
-use Rattle.items.specs.Items.{ItemView, IsItem, item_sum}
-use Rattle.items.specs.Walks.{IsWithin}
-use Rattle.items.proofs.WalkedItems.{past_none, past_beyond}
+use Rattle.semantics_schedules.specs.Schedules.{preemptions}
+use Rattle.walk_items.specs.declared.mode.Mode.{Mode}
+use Rattle.walk_items.specs.declared.mode.Mode.TheVariants.{Bounded, Reduced}
+use Rattle.walk_items.specs.declared.limits.TheConstants.{BOUND}
+use Rattle.walk_summary.specs.Summaries.{SummaryView, nothing, with_beyond, sum_of}
+use Rattle.walk_summary.proofs.SumsJoin.{sum_of_none}
+use Rattle.walk_items.specs.Items.{root_of}
+use Rattle.walk_items.specs.Items.{ItemView, IsItem, item_sum}
+use Rattle.walk_items.specs.Walks.{IsWithin}
+use Rattle.walk_items.proofs.WalkedItems.{past_none, past_beyond}
 use Rattle.book.specs.Books.{BookView, Keeps, IsAtLastBound, Raises, bound_of}
 use Rattle.book.specs.Books.{opening_of}
 use Rattle.book.proofs.BoundedSums.{closed_sum, clean_kept_all}
-use Rattle.report.specs.declared.level.Level.{Level}
-use Rattle.report.specs.declared.options.Options.{Options}
-use Rattle.report.specs.declared.options.Search.{Search}
-use Rattle.report.specs.declared.options.Search.TheVariants.{UpTo, Unbounded}
-use Rattle.report.specs.Promises.{IsSearch}
-use Rattle.report.specs.declared.report.Cause.TheVariants.{Limit, Stopped}
+use Rattle.runner_report.specs.declared.level.Level.{Level}
+use Rattle.runner_report.specs.declared.options.Options.{Options}
+use Rattle.runner_report.specs.declared.options.Search.{Search}
+use Rattle.runner_report.specs.declared.options.Search.TheVariants.{UpTo, Unbounded}
+use Rattle.runner_report.specs.Promises.{IsSearch}
+use Rattle.runner_report.specs.declared.report.Cause.TheVariants.{Limit, Stopped}
 use Rattle.runner.specs.declared.course.Course.{Course}
 use Rattle.runner.specs.declared.judge.Ending.{Ending}
 use Rattle.runner.specs.declared.judge.Ending.TheVariants.{Whole, Cut}

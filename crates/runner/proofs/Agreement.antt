@@ -6,21 +6,21 @@ use Rattle.std.proofs.lemmas.Bool.{cases_lt}
 use Rattle.std.proofs.lemmas.Bool.Decides.{nat_tests}
 use Rattle.guest_code.specs.Program.{Program}
 use Rattle.semantics.specs.declared.view.Kind.{Kind}
-use Rattle.schedules.specs.Schedules.{preemptions}
-use Rattle.schedules.specs.Order.{precedes}
-use Rattle.items.specs.declared.mode.Mode.TheVariants.{Bounded}
-use Rattle.summary.specs.Summaries.{SummaryView, end_kind}
-use Rattle.items.specs.Items.{whole}
-use Rattle.report.specs.declared.options.Options.{Options}
-use Rattle.report.specs.declared.options.Search.{Search}
-use Rattle.report.specs.declared.options.Search.TheVariants.{UpTo, Unbounded}
-use Rattle.report.specs.declared.report.Report.{Report}
-use Rattle.report.specs.declared.report.Verdict.{Verdict}
-use Rattle.report.specs.declared.report.Verdict.TheVariants.{Clean, Bad, Incomplete}
-use Rattle.report.specs.Reports.{IsBad, IsClean, SomeExceeds}
-use Rattle.report.specs.Unbounded.{IsFirstBad}
-use Rattle.report.specs.Promises.{IsReport, IsReportFor, IsBoundedVerdict, IsUnboundedVerdict, IsWhole}
-use Rattle.report.specs.ReportText.{verdict_members, report_text, bad_members, clean_members}
+use Rattle.semantics_schedules.specs.Schedules.{preemptions}
+use Rattle.semantics_schedules.specs.Order.{precedes}
+use Rattle.walk_items.specs.declared.mode.Mode.TheVariants.{Bounded}
+use Rattle.walk_summary.specs.Summaries.{SummaryView, end_kind}
+use Rattle.walk_items.specs.Items.{whole}
+use Rattle.runner_report.specs.declared.options.Options.{Options}
+use Rattle.runner_report.specs.declared.options.Search.{Search}
+use Rattle.runner_report.specs.declared.options.Search.TheVariants.{UpTo, Unbounded}
+use Rattle.runner_report.specs.declared.report.Report.{Report}
+use Rattle.runner_report.specs.declared.report.Verdict.{Verdict}
+use Rattle.runner_report.specs.declared.report.Verdict.TheVariants.{Clean, Bad, Incomplete}
+use Rattle.runner_report.specs.Reports.{IsBad, IsClean, SomeExceeds}
+use Rattle.runner_report.specs.Unbounded.{IsFirstBad}
+use Rattle.runner_report.specs.Promises.{IsReport, IsReportFor, IsBoundedVerdict, IsUnboundedVerdict, IsWhole}
+use Rattle.runner_report.specs.ReportText.{verdict_members, report_text, bad_members, clean_members}
 
 -- neither of two schedules comes before the other: they are one
 neither_first : (v w : List ℕ) → precedes v w ≡ false → precedes w v ≡ false → v ≡ w

@@ -5,25 +5,25 @@ use Rattle.std.proofs.Common.{arith}
 use mathlib.Core.Logic.{dite}
 use native.Mathlib.Decide.{ℕ_discrete}
 use Rattle.guest_code.specs.Program.{Program}
-use Rattle.schedules.specs.Schedules.{preemptions}
-use Rattle.items.specs.declared.mode.Mode.{Mode}
-use Rattle.items.specs.declared.mode.Mode.TheVariants.{Bounded, Reduced}
-use Rattle.summary.specs.Summaries.{SummaryView, IsBoundedBy, nothing, with_beyond, end_kind}
-use Rattle.items.specs.Items.{ItemView, IsItem, root_of, whole}
-use Rattle.items.proofs.Splits.{root_within, split_closed}
+use Rattle.semantics_schedules.specs.Schedules.{preemptions}
+use Rattle.walk_items.specs.declared.mode.Mode.{Mode}
+use Rattle.walk_items.specs.declared.mode.Mode.TheVariants.{Bounded, Reduced}
+use Rattle.walk_summary.specs.Summaries.{SummaryView, IsBoundedBy, nothing, with_beyond, end_kind}
+use Rattle.walk_items.specs.Items.{ItemView, IsItem, root_of, whole}
+use Rattle.walk_items.proofs.Splits.{root_within, split_closed}
 use Rattle.book.specs.Books.{BookView, Keeps, KeepsWhere, with_deferred}
 use Rattle.book.specs.Progress.{mode_bound}
 use Rattle.book.proofs.BoundedSums.{bounded_itself, closed_sum, never_dropped}
-use Rattle.report.specs.declared.level.Level.{Level}
-use Rattle.report.specs.declared.options.Options.{Options}
-use Rattle.report.specs.declared.options.Search.{Search}
-use Rattle.report.specs.declared.options.Search.TheVariants.{UpTo, Unbounded}
-use Rattle.report.specs.declared.report.Cause.{Cause}
-use Rattle.report.specs.declared.report.Verdict.{Verdict}
-use Rattle.report.specs.declared.report.Verdict.TheVariants.{Clean, Bad, Incomplete}
-use Rattle.report.specs.Reports.{IsBad, IsCause, IsFollowed, IsCutShort}
-use Rattle.report.specs.Unbounded.{IsFirstBad}
-use Rattle.report.specs.Promises.{IsReportFor, IsReport}
+use Rattle.runner_report.specs.declared.level.Level.{Level}
+use Rattle.runner_report.specs.declared.options.Options.{Options}
+use Rattle.runner_report.specs.declared.options.Search.{Search}
+use Rattle.runner_report.specs.declared.options.Search.TheVariants.{UpTo, Unbounded}
+use Rattle.runner_report.specs.declared.report.Cause.{Cause}
+use Rattle.runner_report.specs.declared.report.Verdict.{Verdict}
+use Rattle.runner_report.specs.declared.report.Verdict.TheVariants.{Clean, Bad, Incomplete}
+use Rattle.runner_report.specs.Reports.{IsBad, IsCause, IsFollowed, IsCutShort}
+use Rattle.runner_report.specs.Unbounded.{IsFirstBad}
+use Rattle.runner_report.specs.Promises.{IsReportFor, IsReport}
 use Rattle.runner.specs.declared.judge.Ending.{Ending}
 use Rattle.runner.specs.declared.judge.Ending.TheVariants.{Whole, Cut}
 use Rattle.runner.specs.Levels.{IsModeOf, IsLast, GoesOn, HasPassed, HasItemsOf, IsOfProgram}

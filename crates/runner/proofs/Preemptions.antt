@@ -2,8 +2,8 @@
 use Rattle.std.proofs.Common.{◌≡◌, ℕ, ◌<◌, ◌^◌, List, true, arith}
 use Rattle.guest_code.specs.Program.{Program, IsWellFormed}
 use Rattle.semantics.specs.Machine.{start}
-use Rattle.schedules.specs.Schedules.{runs, preemptions}
-use Rattle.items.proofs.Turns.{preemptions_limit}
+use Rattle.semantics_schedules.specs.Schedules.{runs, preemptions}
+use Rattle.walk_items.proofs.Turns.{preemptions_limit}
 
 pub preemptions_fit : (p : Program) (w : List ℕ) → IsWellFormed p
     → runs p (start p) w ≡ true → preemptions p w < 2 ^ 32

@@ -6,19 +6,19 @@ use Rattle.std.proofs.lemmas.Bool.{cases_lt}
 use Rattle.guest_code.specs.Program.{Program}
 use Rattle.semantics.specs.declared.view.Kind.{Kind}
 use Rattle.semantics.specs.Machine.{start}
-use Rattle.schedules.specs.Schedules.{complete_schedules, state_after, runs, preemptions, schedules_within}
-use Rattle.schedules.specs.Order.{precedes, least, ends_badly}
+use Rattle.semantics_schedules.specs.Schedules.{complete_schedules, state_after, runs, preemptions, schedules_within}
+use Rattle.semantics_schedules.specs.Order.{precedes, least, ends_badly}
 use Rattle.semantics.specs.Ends.{kind_of, final_kind}
 use Rattle.semantics.specs.Waiters.{In}
-use Rattle.schedules.proofs.LeastSchedule.{least_none, least_some}
+use Rattle.semantics_schedules.proofs.LeastSchedule.{least_none, least_some}
 use Rattle.semantics.proofs.ListMembers.{in_contains, contains_in, in_filter, from_filter}
-use Rattle.schedules.proofs.StatedLaws.{complete}
-use Rattle.schedules.proofs.SchedulesUnderPrefix.{in_under, in_within, beyond_is, complete_is}
-use Rattle.items.specs.declared.mode.Mode.TheVariants.{Bounded}
-use Rattle.summary.specs.Summaries.{SummaryView, sum_of, end_kind}
-use Rattle.items.specs.Items.{whole}
-use Rattle.report.specs.Reports.{IsBadSchedule, NoBadBelow, SomeExceeds, IsBad, IsClean}
-use Rattle.report.specs.Reports.{IsFinished, IsSummaryOf}
+use Rattle.semantics_schedules.proofs.StatedLaws.{complete}
+use Rattle.semantics_schedules.proofs.SchedulesUnderPrefix.{in_under, in_within, beyond_is, complete_is}
+use Rattle.walk_items.specs.declared.mode.Mode.TheVariants.{Bounded}
+use Rattle.walk_summary.specs.Summaries.{SummaryView, sum_of, end_kind}
+use Rattle.walk_items.specs.Items.{whole}
+use Rattle.runner_report.specs.Reports.{IsBadSchedule, NoBadBelow, SomeExceeds, IsBad, IsClean}
+use Rattle.runner_report.specs.Reports.{IsFinished, IsSummaryOf}
 use Rattle.runner.specs.inner.Judging.{HasPassedBounds}
 
 -- the root's schedules within a bound are all complete ones with at most that many preemptions

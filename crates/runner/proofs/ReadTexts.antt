@@ -7,12 +7,12 @@ use Rattle.guest_syntax.specs.declared.error.SyntaxError.TheVariants.{TooDeep, O
 use Rattle.guest_syntax.specs.Tree.{Tree}
 use Rattle.guest_syntax.specs.Grammar.{Spells}
 use Rattle.guest_code.specs.Program.{Program}
-use Rattle.report.specs.declared.error.ExploreError.{ExploreError}
-use Rattle.report.specs.declared.error.ExploreError.TheVariants as explore
-use Rattle.report.specs.declared.options.Options.{Options}
-use Rattle.report.specs.declared.report.Report.{Report}
-use Rattle.report.specs.Promises.{IsReport}
-use Rattle.report.specs.Texts.{IsProgramOf, ExploreErrorMeans, ExploreMeans, of_syntax}
+use Rattle.runner_report.specs.declared.error.ExploreError.{ExploreError}
+use Rattle.runner_report.specs.declared.error.ExploreError.TheVariants as explore
+use Rattle.runner_report.specs.declared.options.Options.{Options}
+use Rattle.runner_report.specs.declared.report.Report.{Report}
+use Rattle.runner_report.specs.Promises.{IsReport}
+use Rattle.runner_report.specs.Texts.{IsProgramOf, ExploreErrorMeans, ExploreMeans, of_syntax}
 
 pub syntax_means : (text : List ℕ) (e : SyntaxError)
     → (e ≢ OutOfMemory → (t : Tree) → Spells text t → ⊥) → ExploreErrorMeans text (of_syntax e)

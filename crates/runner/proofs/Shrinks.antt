@@ -8,13 +8,13 @@ use Rattle.std.proofs.lemmas.List.{get_or-drop, nil_from_length}
 use Rattle.std.proofs.lemmas.List.Elements.{All-nil, All-cons, All-head, All-tail, All-weaker}
 use mathlib.Core.Logic.{dite}
 use native.Mathlib.Decide.{ℕ_discrete}
-use Rattle.items.specs.declared.mode.Mode.{Mode}
-use Rattle.summary.specs.Summaries.{cut, nothing}
+use Rattle.walk_items.specs.declared.mode.Mode.{Mode}
+use Rattle.walk_summary.specs.Summaries.{cut, nothing}
 use Rattle.walk.specs.declared.found.Found.{Found}
 use Rattle.walk.specs.Founds.{HasAdded}
-use Rattle.items.specs.Items.{ItemView, schedule_count, schedules_of}
-use Rattle.items.specs.Walks.{WalkView, IsWalked, tried_by}
-use Rattle.items.proofs.WalkedItems.{walked_counts, walked_count}
+use Rattle.walk_items.specs.Items.{ItemView, schedule_count, schedules_of}
+use Rattle.walk_items.specs.Walks.{WalkView, IsWalked, tried_by}
+use Rattle.walk_items.proofs.WalkedItems.{walked_counts, walked_count}
 use Rattle.book.specs.Books.{BookView, Settles, AreWalksAt, HaveFound, HaveSettled, StandInOrder}
 use Rattle.book.specs.Books.{IsWithinQuota, HasWalkedRound, places_from, drops, thinned}
 use Rattle.book.specs.declared.limits.TheConstants.{ROUND}

@@ -5,20 +5,20 @@ use Rattle.std.specs.List.{filter}
 use Rattle.guest_code.specs.Program.{Program}
 use Rattle.semantics.specs.declared.view.Kind.{Kind}
 use Rattle.semantics.specs.Machine.{start}
-use Rattle.schedules.specs.Schedules.{complete_schedules, preemptions}
-use Rattle.schedules.specs.Sleep.{reduced_schedules, none_asleep}
-use Rattle.schedules.specs.Order.{least, ends_badly, end_of}
+use Rattle.semantics_schedules.specs.Schedules.{complete_schedules, preemptions}
+use Rattle.semantics_schedules.specs.Sleep.{reduced_schedules, none_asleep}
+use Rattle.semantics_schedules.specs.Order.{least, ends_badly, end_of}
 use Rattle.semantics.specs.Waiters.{In}
-use Rattle.schedules.proofs.LeastSchedule.{least_none, least_some}
+use Rattle.semantics_schedules.proofs.LeastSchedule.{least_none, least_some}
 use Rattle.semantics.proofs.ListMembers.{in_contains, contains_in, in_filter, from_filter}
-use Rattle.schedules.proofs.ReducedSchedules.{least_bad, ends_pass}
-use Rattle.items.specs.declared.mode.Mode.TheVariants.{Reduced}
-use Rattle.summary.specs.Summaries.{SummaryView, sum_of, end_kind, sorted_views}
-use Rattle.items.specs.Items.{whole, root_of, kept_schedules}
-use Rattle.summary.proofs.SortedViews.{sorted_views-alike}
-use Rattle.items.proofs.WalkedItems.{root_pruned}
-use Rattle.report.specs.Reports.{IsSummaryOf}
-use Rattle.report.specs.Unbounded.{IsReducedSummary, IsReducedSummaryOf, IsFirstBad, HasNoBad}
+use Rattle.semantics_schedules.proofs.ReducedSchedules.{least_bad, ends_pass}
+use Rattle.walk_items.specs.declared.mode.Mode.TheVariants.{Reduced}
+use Rattle.walk_summary.specs.Summaries.{SummaryView, sum_of, end_kind, sorted_views}
+use Rattle.walk_items.specs.Items.{whole, root_of, kept_schedules}
+use Rattle.walk_summary.proofs.SortedViews.{sorted_views-alike}
+use Rattle.walk_items.proofs.WalkedItems.{root_pruned}
+use Rattle.runner_report.specs.Reports.{IsSummaryOf}
+use Rattle.runner_report.specs.Unbounded.{IsReducedSummary, IsReducedSummaryOf, IsFirstBad, HasNoBad}
 use Rattle.runner.proofs.Promises.{same_bad}
 
 bad_of : (p : Program) (L : List (List ℕ))

@@ -5,16 +5,16 @@ use Rattle.std.specs.List.{flat_map, Contains}
 use Rattle.std.proofs.lemmas.List.Elements.{All-head}
 use Rattle.std.proofs.lemmas.List.Sorted.{length_permutation}
 use Rattle.guest_code.specs.Program.{Program}
-use Rattle.schedules.specs.Schedules.{preemptions, schedules_within}
-use Rattle.schedules.proofs.PrefixesExtend.{extends_within}
-use Rattle.items.specs.declared.mode.Mode.TheVariants.{Bounded}
-use Rattle.summary.specs.Summaries.{SummaryView, cut, sum_of, with_beyond}
-use Rattle.items.specs.Items.{ItemView, root_of, schedules_of}
-use Rattle.items.specs.Walks.{IsBelow, IsSplit}
-use Rattle.items.proofs.Splits.{root_within, split_moved}
-use Rattle.report.specs.declared.options.Search.TheVariants.{UpTo}
-use Rattle.report.specs.declared.report.Cause.{Cause}
-use Rattle.report.specs.Reports.{IsFollowed, IsCutShort}
+use Rattle.semantics_schedules.specs.Schedules.{preemptions, schedules_within}
+use Rattle.semantics_schedules.proofs.PrefixesExtend.{extends_within}
+use Rattle.walk_items.specs.declared.mode.Mode.TheVariants.{Bounded}
+use Rattle.walk_summary.specs.Summaries.{SummaryView, cut, sum_of, with_beyond}
+use Rattle.walk_items.specs.Items.{ItemView, root_of, schedules_of}
+use Rattle.walk_items.specs.Walks.{IsBelow, IsSplit}
+use Rattle.walk_items.proofs.Splits.{root_within, split_moved}
+use Rattle.runner_report.specs.declared.options.Search.TheVariants.{UpTo}
+use Rattle.runner_report.specs.declared.report.Cause.{Cause}
+use Rattle.runner_report.specs.Reports.{IsFollowed, IsCutShort}
 
 counted : (p : Program) (L : List (List ℕ)) (b : Bool)
     → (with_beyond (sum_of p L) b).tried ≡ cut (length L)

@@ -2,8 +2,8 @@
 
 ghost use Rattle.std.specs.Prelude.{◌≡◌, ◌≤◌, false, IfOk, IfErr, OnOk};
 ghost use Rattle.std.specs.Arc.{arc_value};
-ghost use Rattle.report.specs.declared.error.ExploreError.TheVariants.{OutOfMemory};
-ghost use Rattle.report.specs.Promises.{IsSearch, IsReport};
+ghost use Rattle.runner_report.specs.declared.error.ExploreError.TheVariants.{OutOfMemory};
+ghost use Rattle.runner_report.specs.Promises.{IsSearch, IsReport};
 ghost use Rattle.runner.specs.inner.Judging.{IsAt, ComesAfter, HasEnded};
 ghost use Rattle.runner.specs.inner.Shrinking.{Went, Goes};
 
@@ -13,14 +13,14 @@ use crate::reports::report_at_end;
 use book::books::Book;
 use book::progress::Progress;
 use guest_code::program::Program;
-use items::item::Item;
-use report::{ExploreError, Options, Report};
+use runner_report::{ExploreError, Options, Report};
+use runner_workers::{Gate, Open};
 use std::alloc::Global;
 use std::slice;
 use std::sync::Arc;
 use walk::found::Found;
 use walk::walker::Walker;
-use workers::{Gate, Open};
+use walk_items::item::Item;
 
 // The only worker of a search: its walker, and memory for what a walk finds.
 #[derive(Drop)]

@@ -2,13 +2,13 @@
 
 ghost use Rattle.std.specs.Prelude.{◌≡◌, ◌<◌, ◌≤◌, Bool, [], true, false, None, Some, IfOk, IfErr, OnOk};
 ghost use Rattle.std.specs.Arc.{arc_value};
-ghost use Rattle.schedules.specs.Schedules.{preemptions};
-ghost use Rattle.items.specs.declared.mode.Mode.TheVariants.{Bounded};
-ghost use Rattle.summary.specs.Summaries.{nothing, with_beyond};
-ghost use Rattle.items.specs.Items.{ItemView, IsItem, root_of};
+ghost use Rattle.semantics_schedules.specs.Schedules.{preemptions};
+ghost use Rattle.walk_items.specs.declared.mode.Mode.TheVariants.{Bounded};
+ghost use Rattle.walk_summary.specs.Summaries.{nothing, with_beyond};
+ghost use Rattle.walk_items.specs.Items.{ItemView, IsItem, root_of};
 ghost use Rattle.book.specs.Books.{Keeps, opening};
-ghost use Rattle.report.specs.declared.error.ExploreError.TheVariants.{OutOfMemory};
-ghost use Rattle.report.specs.Promises.{IsSearch};
+ghost use Rattle.runner_report.specs.declared.error.ExploreError.TheVariants.{OutOfMemory};
+ghost use Rattle.runner_report.specs.Promises.{IsSearch};
 ghost use Rattle.runner.specs.Levels.{IsModeOf, GoesOn, AreBelow, AreLevels};
 ghost use Rattle.runner.specs.inner.Judging.{IsAt, AreKept, HasKept, IsCourse, Ends, level_at, begun, bounds_left, first_mode, lists_at};
 
@@ -19,12 +19,12 @@ use book::errors::RaiseError;
 use book::progress::mode_bound;
 use guest_code::laws::programs_are_well_formed;
 use guest_code::program::Program;
-use items::item::Item;
-use items::mode::Mode;
-use report::{Cause, ExploreError, Level, Options, Search};
+use runner_report::{Cause, ExploreError, Level, Options, Search};
 use std::alloc::Global;
 use std::sync::Arc;
-use summary::Summary;
+use walk_items::item::Item;
+use walk_items::mode::Mode;
+use walk_summary::Summary;
 
 /// The state of a search: what it is asked for, its book, and what was found at each bound that it
 /// has passed, as levels, where these are kept.

@@ -1,14 +1,14 @@
 //! What comes next after a round: another round, the next bound, or the end of the search.
 
 ghost use Rattle.std.specs.Prelude.{◌≡◌, ◌↔◌, IfSome, IfNone, IsTrue};
-ghost use Rattle.report.specs.Reports.{IsCause};
+ghost use Rattle.runner_report.specs.Reports.{IsCause};
 ghost use Rattle.runner.specs.Levels.{IsModeOf, IsLast, GoesOn};
 ghost use Rattle.runner.specs.inner.Judging.{HasNoCause, Comes, ending_cause};
 
 use book::books::Book;
-use items::mode::Mode;
-use report::{Cause, Options, Search};
-use summary::Summary;
+use runner_report::{Cause, Options, Search};
+use walk_items::mode::Mode;
+use walk_summary::Summary;
 
 /// How a search ends.
 #[derive(Clone, Copy)]

@@ -3,18 +3,18 @@
 
 ghost use Rattle.std.specs.Prelude.{◌≡◌, ◌⊎◌, ◌<◌, ℕ, [], Bool, false, Option, length};
 ghost use Rattle.guest_code.specs.Program.{Program};
-ghost use Rattle.schedules.specs.Schedules.{schedules_within};
-ghost use Rattle.items.specs.declared.mode.Mode.TheVariants.{Bounded};
-ghost use Rattle.summary.specs.Summaries.{SummaryView};
-ghost use Rattle.report.specs.declared.limits.TheConstants.{QUOTA};
-ghost use Rattle.workers.specs.declared.limits.TheConstants.{WORKERS};
-ghost use Rattle.report.specs.declared.options.Options.{Options};
-ghost use Rattle.report.specs.declared.options.Search.TheVariants.{UpTo};
-ghost use Rattle.report.specs.declared.report.Cause.{Cause};
-ghost use Rattle.report.specs.declared.report.Report.{Report};
-ghost use Rattle.report.specs.Reports.{IsFollowed, IsCutShort};
-ghost use Rattle.report.specs.Promises.{IsReport, IsWhole};
-ghost use Rattle.report.specs.ReportText.{report_text};
+ghost use Rattle.semantics_schedules.specs.Schedules.{schedules_within};
+ghost use Rattle.walk_items.specs.declared.mode.Mode.TheVariants.{Bounded};
+ghost use Rattle.walk_summary.specs.Summaries.{SummaryView};
+ghost use Rattle.runner_report.specs.declared.limits.TheConstants.{QUOTA};
+ghost use Rattle.runner_workers.specs.declared.limits.TheConstants.{WORKERS};
+ghost use Rattle.runner_report.specs.declared.options.Options.{Options};
+ghost use Rattle.runner_report.specs.declared.options.Search.TheVariants.{UpTo};
+ghost use Rattle.runner_report.specs.declared.report.Cause.{Cause};
+ghost use Rattle.runner_report.specs.declared.report.Report.{Report};
+ghost use Rattle.runner_report.specs.Reports.{IsFollowed, IsCutShort};
+ghost use Rattle.runner_report.specs.Promises.{IsReport, IsWhole};
+ghost use Rattle.runner_report.specs.ReportText.{report_text};
 
 use crate::limits::{QUOTA, WORKERS};
 

@@ -26,10 +26,10 @@ mod together;
 pub use alone::explore_alone;
 pub use book::progress::Progress;
 pub use limits::{BOUND, QUOTA, WORKERS};
-pub use report::{
+pub use reports::{end_of, report_of};
+pub use runner_report::{
     Cause, ExploreError, Level, Options, Report, Search, Verdict, report_text, report_value,
 };
-pub use reports::{end_of, report_of};
+pub use runner_workers::{Answer, Gate, Open};
 pub use text::{explore_text, explore_text_alone, program_of};
 pub use together::{explore, explore_under};
-pub use workers::{Answer, Gate, Open};

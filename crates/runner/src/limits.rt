@@ -1,4 +1,4 @@
 //! The limits of a search, beside those of a walk.
 
-pub use report::limits::{BOUND, QUOTA};
-pub use workers::limits::{SPINS, WORKERS, YIELDS};
+pub use runner_report::limits::{BOUND, QUOTA};
+pub use runner_workers::limits::{SPINS, WORKERS, YIELDS};

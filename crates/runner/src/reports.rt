@@ -2,13 +2,13 @@
 
 ghost use Rattle.std.specs.Prelude.{◌≡◌, Bool, [], true, false, Some, None, Contains, IfOk, IfErr, IfSome, IfNone};
 ghost use Rattle.semantics.specs.Machine.{start};
-ghost use Rattle.schedules.specs.Schedules.{runs, complete_schedules, preemptions};
-ghost use Rattle.summary.specs.Summaries.{end_kind};
+ghost use Rattle.semantics_schedules.specs.Schedules.{runs, complete_schedules, preemptions};
+ghost use Rattle.walk_summary.specs.Summaries.{end_kind};
 ghost use Rattle.replay.specs.Run.{IsRunOf};
-ghost use Rattle.items.specs.Items.{root_of, whole};
+ghost use Rattle.walk_items.specs.Items.{root_of, whole};
 ghost use Rattle.book.specs.Books.{Keeps, IsClosed};
-ghost use Rattle.report.specs.declared.error.ExploreError.TheVariants.{OutOfMemory};
-ghost use Rattle.report.specs.Promises.{IsReport};
+ghost use Rattle.runner_report.specs.declared.error.ExploreError.TheVariants.{OutOfMemory};
+ghost use Rattle.runner_report.specs.Promises.{IsReport};
 ghost use Rattle.runner.specs.Levels.{IsModeOf, GoesOn, IsOfProgram, HasPassed};
 ghost use Rattle.runner.specs.inner.Judging.{IsAt, IsFound, IsFinishedIn, IsBoundBelow, IsVerdictOn, Ends, report_in};
 
@@ -17,13 +17,13 @@ use book::books::Book;
 use book::progress::mode_bound;
 use guest_code::laws::programs_are_well_formed;
 use guest_code::program::Program;
-use items::mode::Mode;
 use replay::laws::one_place_is_the_first_bad;
 use replay::{ReplayError, Run, replay};
-use report::{ExploreError, Options, Report, Verdict};
+use runner_report::{ExploreError, Options, Report, Verdict};
 use semantics::view::Kind;
 use std::alloc::Global;
-use summary::Summary;
+use walk_items::mode::Mode;
+use walk_summary::Summary;
 
 /// The run of a schedule that is known to run in the program: its replay.
 pub(crate) fn run_of(alloc: Global, program: &Program, schedule: &[u8]) -> Result<Run, ExploreError>

@@ -2,20 +2,20 @@
 
 ghost use Rattle.std.specs.Prelude.{◌≤◌, false, IfOk, IfErr};
 ghost use Rattle.std.specs.Arc.{arc_value};
-ghost use Rattle.workers.specs.declared.limits.TheConstants.{WORKERS};
-ghost use Rattle.report.specs.Promises.{IsSearch};
-ghost use Rattle.report.specs.Texts.{IsProgramOf, ExploreErrorMeans, ExploreMeans};
+ghost use Rattle.runner_workers.specs.declared.limits.TheConstants.{WORKERS};
+ghost use Rattle.runner_report.specs.Promises.{IsSearch};
+ghost use Rattle.runner_report.specs.Texts.{IsProgramOf, ExploreErrorMeans, ExploreMeans};
 
 use crate::alone::explore_alone;
 use crate::together::explore;
 use guest_code::lowering::lower;
 use guest_code::program::Program;
 use guest_syntax::parse;
-use report::{ExploreError, Options, Report};
+use runner_report::{ExploreError, Options, Report};
+use runner_workers::Gate;
 use std::alloc::Global;
 use std::sync::{Arc, Wait};
 use std::thread::Threads;
-use workers::Gate;
 
 /// The program that a text spells.
 ///

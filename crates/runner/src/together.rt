@@ -2,10 +2,10 @@
 
 ghost use Rattle.std.specs.Prelude.{◌≡◌, ◌≤◌, ◌<◌, Bool, IfOk, IfErr, OnOk, IfSome, IfNone};
 ghost use Rattle.std.specs.Arc.{arc_value};
-ghost use Rattle.report.specs.declared.error.ExploreError.TheVariants.{OutOfMemory};
-ghost use Rattle.report.specs.declared.options.Search.TheVariants.{UpTo};
-ghost use Rattle.workers.specs.declared.limits.TheConstants.{WORKERS};
-ghost use Rattle.report.specs.Promises.{IsSearch, IsReport};
+ghost use Rattle.runner_report.specs.declared.error.ExploreError.TheVariants.{OutOfMemory};
+ghost use Rattle.runner_report.specs.declared.options.Search.TheVariants.{UpTo};
+ghost use Rattle.runner_workers.specs.declared.limits.TheConstants.{WORKERS};
+ghost use Rattle.runner_report.specs.Promises.{IsSearch, IsReport};
 ghost use Rattle.runner.specs.Levels.{IsModeOf, AreLevels};
 ghost use Rattle.runner.specs.inner.Judging.{IsAt, AreKept, HasEnded, Ends, first_mode};
 
@@ -19,12 +19,12 @@ use crate::reports::report_at_end;
 use book::books::Book;
 use book::progress::Progress;
 use guest_code::program::Program;
-use items::item::Item;
-use report::{ExploreError, Level, Options, Report, Search};
+use runner_report::{ExploreError, Level, Options, Report, Search};
+use runner_workers::{Gate, Team};
 use std::alloc::Global;
 use std::sync::{Arc, Wait};
 use std::thread::Threads;
-use workers::{Gate, Team};
+use walk_items::item::Item;
 
 // Judges how a search goes on after rounds that are settled in its book; `stopped` says whether the
 // gate stopped a worker. Answers how the search ends; `None` where another round follows. If that

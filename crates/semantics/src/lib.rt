@@ -3,7 +3,7 @@
 //! `State::start` is where all begin: each thread has run its own instructions up to its first
 //! visible statement. `State::enabled` says who may take a step, `State::step` takes one,
 //! `State::undo` takes it back, and `State::kind` says how it ended where nobody may step. Lists of
-//! such steps, schedules, are for the crate `schedules`.
+//! such steps, schedules, are for the crate `semantics_schedules`.
 //!
 //! The contracts speak of a `State` as a snapshot: the lists of the variables' values, the owners
 //! of the mutexes, the queues of the conditions, the counts of the semaphores, and the threads.

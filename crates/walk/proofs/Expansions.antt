@@ -11,17 +11,17 @@ use Rattle.semantics.specs.Ends.{is_terminal, is_empty, view_at}
 use Rattle.semantics.specs.View.{View}
 use Rattle.semantics.specs.Mask.{has, members_from, no_threads, HasEnabled}
 use Rattle.semantics.specs.declared.mask.Mask.{Mask}
-use Rattle.items.specs.declared.mode.Mode.{Mode}
-use Rattle.items.specs.declared.mode.Mode.TheVariants.{Bounded, Reduced}
+use Rattle.walk_items.specs.declared.mode.Mode.{Mode}
+use Rattle.walk_items.specs.declared.mode.Mode.TheVariants.{Bounded, Reduced}
 use Rattle.walk.specs.declared.path.Node.{Node}
 use Rattle.walk.specs.declared.path.Path.{Path}
 use Rattle.walk.specs.declared.found.Found.{Found}
-use Rattle.summary.specs.Summaries.{SummaryView, with_beyond, greatest_count, added}
-use Rattle.items.specs.Items.{ItemView, IsItem}
-use Rattle.items.specs.Walks.{IsWalked, items_at}
-use Rattle.items.specs.Children.{state_of, IsWithin, is_kept_step, kept_steps, past_steps}
-use Rattle.items.specs.Children.{passes_bound, child_of, children_of, children}
-use Rattle.items.specs.Children.{cost_of, costs}
+use Rattle.walk_summary.specs.Summaries.{SummaryView, with_beyond, greatest_count, added}
+use Rattle.walk_items.specs.Items.{ItemView, IsItem}
+use Rattle.walk_items.specs.Walks.{IsWalked, items_at}
+use Rattle.walk_items.specs.Children.{state_of, IsWithin, is_kept_step, kept_steps, past_steps}
+use Rattle.walk_items.specs.Children.{passes_bound, child_of, children_of, children}
+use Rattle.walk_items.specs.Children.{cost_of, costs}
 use Rattle.walk.specs.inner.Paths.{used_frames, IsNode, IsPath, state_at}
 use Rattle.walk.specs.inner.WalkerInvariant.{item_of, here, left_above, still_open, turns_left}
 use Rattle.walk.specs.inner.WalkerInvariant.{turns_from, turns_into, is_kept_at, is_past_at}
@@ -38,8 +38,8 @@ use Rattle.walk.proofs.WalkTurns.{deferred_are}
 use Rattle.walk.proofs.WalkSteps.{walk_of, first_on, own_kept, join_beyond_on, leaf_on}
 use Rattle.walk.proofs.WalkSteps.{walked_node, over_none, over_some}
 use Rattle.semantics.proofs.WorkFalls.{work-step}
-use Rattle.schedules.proofs.UnfoldingUnderPrefix.{state_after-push}
-use Rattle.items.proofs.Turns.{costs-append, cost_two, children_cost, turns_more}
+use Rattle.semantics_schedules.proofs.UnfoldingUnderPrefix.{state_after-push}
+use Rattle.walk_items.proofs.Turns.{costs-append, cost_two, children_cost, turns_more}
 
 -- these are enabled at the path's node
 abbrev pub AreOn : Program → Path → Mask → Type 0

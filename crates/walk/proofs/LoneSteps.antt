@@ -14,21 +14,21 @@ use Rattle.semantics.specs.Mask.{has, members_from, one_if}
 use Rattle.semantics.specs.Work.{up_from}
 use Rattle.semantics.proofs.TerminalStates.{is_terminal-some}
 use Rattle.semantics.proofs.WorkFalls.{enabled_below}
-use Rattle.items.specs.declared.mode.Mode.{Mode}
-use Rattle.items.specs.declared.mode.Mode.TheVariants.{Bounded, Reduced}
+use Rattle.walk_items.specs.declared.mode.Mode.{Mode}
+use Rattle.walk_items.specs.declared.mode.Mode.TheVariants.{Bounded, Reduced}
 use Rattle.walk.specs.declared.path.Node.{Node}
 use Rattle.walk.specs.declared.path.Path.{Path}
 use Rattle.walk.specs.declared.found.Found.{Found}
 use Rattle.std.specs.declared.alloc.Global.{Global}
 use Rattle.std.specs.declared.vec.Vec.{Vec}
-use Rattle.summary.specs.Summaries.{with_beyond}
-use Rattle.items.specs.Items.{ItemView}
-use Rattle.items.specs.Children.{is_kept_step, kept_steps, child_of, children_of, children}
+use Rattle.walk_summary.specs.Summaries.{with_beyond}
+use Rattle.walk_items.specs.Items.{ItemView}
+use Rattle.walk_items.specs.Children.{is_kept_step, kept_steps, child_of, children_of, children}
 use Rattle.walk.specs.inner.Paths.{is_preempting, preempts_last, state_at, IsNode}
 use Rattle.walk.specs.inner.WalkerInvariant.{item_of, left_above, is_kept_at, is_past_at}
 use Rattle.walk.specs.inner.WalkerInvariant.{IsWithinAt, IsFree, at_bound, IsAtBound, IsSearch}
 use Rattle.walk.specs.inner.WalkerInvariant.{HasPut, IsShared, IsWalkedOn, open_here, open_below}
-use Rattle.items.proofs.Filters.{filter_twice}
+use Rattle.walk_items.proofs.Filters.{filter_twice}
 use Rattle.walk.proofs.SharedSteps.{shared_same}
 use Rattle.walk.proofs.WalkTurns.{filter_alike, kept_alike}
 use Rattle.walk.proofs.Expansions.{AreOn, node_of, past_deferred, IsTurned, place_turned, left_turned}

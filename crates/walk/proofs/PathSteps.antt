@@ -11,22 +11,22 @@ use Rattle.std.proofs.lemmas.List.{get_or_append_left}
 use Rattle.std.proofs.Math.Seq.{take-length, get_or-append_seam}
 use Rattle.guest_code.specs.Program.{Program}
 use Rattle.semantics.specs.declared.mask.Mask.{Mask}
-use Rattle.machine.specs.declared.machine.Machine.{Machine}
-use Rattle.machine.specs.declared.machine.Shape.{Shape}
+use Rattle.semantics_machine.specs.declared.machine.Machine.{Machine}
+use Rattle.semantics_machine.specs.declared.machine.Shape.{Shape}
 use Rattle.semantics.specs.Machine.{Snapshot}
 use Rattle.semantics.specs.Mask.{HasEnabled, members_from}
-use Rattle.machine.specs.Refinement.{Shows, IsShown}
-use Rattle.schedules.specs.Schedules.{preempts}
-use Rattle.schedules.specs.Execution.{Reaches}
+use Rattle.semantics_machine.specs.Refinement.{Shows, IsShown}
+use Rattle.semantics_schedules.specs.Schedules.{preempts}
+use Rattle.semantics_schedules.specs.Execution.{Reaches}
 use Rattle.walk.proofs.Words.{chunk_inside, Rewrites}
 use Rattle.walk.specs.declared.path.Frame.{Frame}
 use Rattle.walk.specs.declared.path.Path.{Path}
 use Rattle.walk.specs.declared.path.Node.{Node}
-use Rattle.items.specs.declared.mode.Mode.{Mode}
+use Rattle.walk_items.specs.declared.mode.Mode.{Mode}
 use Rattle.walk.specs.inner.Paths.{used_frames, words_at, state_at, ReachesNode, preempts_last}
 use Rattle.walk.specs.inner.Paths.{IsPath, IsCopy, AreCopies, frame_at, no_frame}
 use Rattle.walk.specs.inner.WalkerInvariant.{open_at, open_from, left_above, still_open, here}
-use Rattle.items.specs.Children.{children_of}
+use Rattle.walk_items.specs.Children.{children_of}
 
 -- the words
 

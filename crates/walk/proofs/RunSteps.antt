@@ -15,12 +15,12 @@ use Rattle.semantics.specs.Machine.{Snapshot, start, step, is_enabled}
 use Rattle.semantics.specs.Mask.{HasEnabled, one_if}
 use Rattle.semantics.specs.Reachable.{IsOf}
 use Rattle.semantics.proofs.StepsKeepStates.{start_is_of}
-use Rattle.schedules.specs.Schedules.{state_after, runs, preempts}
-use Rattle.schedules.specs.Execution.{Reaches}
-use Rattle.schedules.proofs.Executions.{reaches_parts}
-use Rattle.schedules.proofs.RunsKeepStates.{run_is_of}
-use Rattle.schedules.proofs.UnfoldingUnderPrefix.{state_after-push}
-use Rattle.machine.specs.Refinement.{Shows}
+use Rattle.semantics_schedules.specs.Schedules.{state_after, runs, preempts}
+use Rattle.semantics_schedules.specs.Execution.{Reaches}
+use Rattle.semantics_schedules.proofs.Executions.{reaches_parts}
+use Rattle.semantics_schedules.proofs.RunsKeepStates.{run_is_of}
+use Rattle.semantics_schedules.proofs.UnfoldingUnderPrefix.{state_after-push}
+use Rattle.semantics_machine.specs.Refinement.{Shows}
 use Rattle.walk.specs.declared.path.Path.{Path}
 use Rattle.walk.specs.declared.path.Node.{Node}
 use Rattle.walk.specs.inner.Paths.{IsPath, ReachesNode, used_frames, state_at}

@@ -18,15 +18,15 @@ use Rattle.semantics.specs.Reachable.{IsOf}
 use Rattle.semantics.specs.Work.{work}
 use Rattle.semantics.proofs.Masks.{has-mask_of, has-above, mask_of-fits}
 use Rattle.semantics.proofs.WorkFalls.{work-step, disabled_past}
-use Rattle.schedules.proofs.UnfoldingUnderPrefix.{state_after-push}
-use Rattle.machine.specs.declared.machine.Run.{Run}
-use Rattle.summary.specs.Summaries.{with_beyond}
-use Rattle.items.specs.declared.mode.Mode.{Mode}
-use Rattle.items.specs.declared.mode.Mode.TheVariants.{Bounded, Reduced}
-use Rattle.items.specs.Items.{ItemView}
-use Rattle.items.specs.Walks.{listed_if}
-use Rattle.items.specs.Children.{child_of, mask_after, cost_of, costs}
-use Rattle.items.proofs.Turns.{turns_more}
+use Rattle.semantics_schedules.proofs.UnfoldingUnderPrefix.{state_after-push}
+use Rattle.semantics_machine.specs.declared.machine.Run.{Run}
+use Rattle.walk_summary.specs.Summaries.{with_beyond}
+use Rattle.walk_items.specs.declared.mode.Mode.{Mode}
+use Rattle.walk_items.specs.declared.mode.Mode.TheVariants.{Bounded, Reduced}
+use Rattle.walk_items.specs.Items.{ItemView}
+use Rattle.walk_items.specs.Walks.{listed_if}
+use Rattle.walk_items.specs.Children.{child_of, mask_after, cost_of, costs}
+use Rattle.walk_items.proofs.Turns.{turns_more}
 use Rattle.walk.specs.declared.found.Found.{Found}
 use Rattle.walk.specs.declared.path.Path.{Path}
 use Rattle.walk.specs.inner.Paths.{used_frames, state_at, IsNode, IsPath, ReachesNode}

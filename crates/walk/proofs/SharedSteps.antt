@@ -7,7 +7,7 @@ use Rattle.std.proofs.lemmas.List.{get_or_at}
 use Rattle.std.specs.declared.alloc.Global.{Global}
 use Rattle.std.specs.declared.vec.Vec.{Vec}
 use Rattle.walk.specs.declared.found.Found.{Found}
-use Rattle.prefix_list.specs.PrefixLists.{last_of}
+use Rattle.walk_prefixes.specs.PrefixLists.{last_of}
 use Rattle.walk.specs.inner.WalkerInvariant.{IsShared}
 
 -- the same of the same steps

@@ -8,22 +8,22 @@ use Rattle.guest_code.specs.Program.{Program}
 use Rattle.semantics.specs.Reachable.{IsOf}
 use Rattle.semantics.specs.Machine.{Snapshot}
 use Rattle.semantics.specs.Ends.{is_terminal, is_empty, enabled}
-use Rattle.schedules.specs.Order.{end_of}
-use Rattle.items.specs.declared.mode.Mode.{Mode}
-use Rattle.summary.specs.Summaries.{SummaryView, IsSummary, nothing, sum_of, join, with_beyond}
-use Rattle.summary.specs.Summaries.{added}
-use Rattle.items.specs.Items.{ItemView, IsItem}
-use Rattle.items.specs.Walks.{WalkView, IsWalked, IsBelow}
-use Rattle.items.specs.Children.{state_of, IsWithin, passes_bound, children, past_children}
+use Rattle.semantics_schedules.specs.Order.{end_of}
+use Rattle.walk_items.specs.declared.mode.Mode.{Mode}
+use Rattle.walk_summary.specs.Summaries.{SummaryView, IsSummary, nothing, sum_of, join, with_beyond}
+use Rattle.walk_summary.specs.Summaries.{added}
+use Rattle.walk_items.specs.Items.{ItemView, IsItem}
+use Rattle.walk_items.specs.Walks.{WalkView, IsWalked, IsBelow}
+use Rattle.walk_items.specs.Children.{state_of, IsWithin, passes_bound, children, past_children}
 use Rattle.walk.specs.declared.found.Found.{Found}
-use Rattle.items.specs.Walks.{items_at}
+use Rattle.walk_items.specs.Walks.{items_at}
 use Rattle.walk.proofs.Puts.{put_same}
 use Rattle.walk.specs.inner.WalkerInvariant.{IsWalkedOn}
-use Rattle.items.proofs.Splits.{first_within, split_kept}
-use Rattle.items.proofs.Splits.{walked_further}
-use Rattle.items.proofs.ItemsWalked.{leaf_walked, node_walked}
-use Rattle.summary.proofs.PartsJoin.{join_past, join_leaf}
-use Rattle.summary.proofs.SumsJoin.{join_assoc, join_kept}
+use Rattle.walk_items.proofs.Splits.{first_within, split_kept}
+use Rattle.walk_items.proofs.Splits.{walked_further}
+use Rattle.walk_items.proofs.ItemsWalked.{leaf_walked, node_walked}
+use Rattle.walk_summary.proofs.PartsJoin.{join_past, join_leaf}
+use Rattle.walk_summary.proofs.SumsJoin.{join_assoc, join_kept}
 
 -- a walk of these parts
 abbrev pub walk_of : Mode → ItemView → SummaryView → List ItemView → List ItemView → WalkView

@@ -9,22 +9,22 @@ use Rattle.semantics.specs.Mask.{has, members_from, HasEnabled, one_if}
 use Rattle.guest_code.specs.declared.limits.TheConstants.{THREADS}
 use Rattle.semantics.specs.Reachable.{IsOf}
 use Rattle.semantics.specs.declared.mask.Mask.{Mask}
-use Rattle.schedules.specs.Schedules.{runs, preempts, preemptions}
+use Rattle.semantics_schedules.specs.Schedules.{runs, preempts, preemptions}
 use Rattle.semantics.specs.Ends.{enabled}
 use Rattle.semantics.specs.Work.{up_from}
 use Rattle.semantics.proofs.Masks.{members_enabled}
 use Rattle.semantics.proofs.WorkFalls.{disabled_past}
-use Rattle.schedules.proofs.UnfoldingUnderPrefix.{preemptions-push}
-use Rattle.schedules.proofs.Executions.{runs_at}
-use Rattle.items.specs.declared.mode.Mode.{Mode}
+use Rattle.semantics_schedules.proofs.UnfoldingUnderPrefix.{preemptions-push}
+use Rattle.semantics_schedules.proofs.Executions.{runs_at}
+use Rattle.walk_items.specs.declared.mode.Mode.{Mode}
 use Rattle.walk.specs.declared.path.Node.{Node}
-use Rattle.items.specs.declared.mode.Mode.TheVariants.{Bounded, Reduced}
-use Rattle.items.specs.Items.{ItemView, item_at}
-use Rattle.items.proofs.Filters.{filter_twice}
+use Rattle.walk_items.specs.declared.mode.Mode.TheVariants.{Bounded, Reduced}
+use Rattle.walk_items.specs.Items.{ItemView, item_at}
+use Rattle.walk_items.proofs.Filters.{filter_twice}
 use Rattle.walk.proofs.PathSteps.{preempts_is}
-use Rattle.items.proofs.Children.{reduced_past}
-use Rattle.items.specs.Children.{child_of, children_of, past_children, kept_steps, past_steps}
-use Rattle.items.specs.Children.{is_kept_step, is_past_step}
+use Rattle.walk_items.proofs.Children.{reduced_past}
+use Rattle.walk_items.specs.Children.{child_of, children_of, past_children, kept_steps, past_steps}
+use Rattle.walk_items.specs.Children.{is_kept_step, is_past_step}
 use Rattle.walk.specs.inner.Paths.{is_preempting, IsNode, state_at}
 use Rattle.walk.specs.inner.WalkerInvariant.{item_of, is_kept_at, is_past_at}
 

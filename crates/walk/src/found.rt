@@ -1,13 +1,13 @@
 //! What a walk finds.
 
 ghost use Rattle.std.specs.Prelude.{◌≡◌, [], true};
-ghost use Rattle.summary.specs.Summaries.{nothing};
+ghost use Rattle.walk_summary.specs.Summaries.{nothing};
 ghost use Rattle.walk.specs.inner.WalkerInvariant.{IsShared};
 
-use items::item::Item;
-use prefix_list::{Prefixes, shared_len};
 use std::alloc::Global;
-use summary::{EndMemory, Summary};
+use walk_items::item::Item;
+use walk_prefixes::{Prefixes, shared_len};
+use walk_summary::{EndMemory, Summary};
 
 /// What one or more walks of items found together. Its memory serves later walks.
 #[derive(Drop)]

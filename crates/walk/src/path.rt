@@ -3,21 +3,21 @@
 
 ghost use Rattle.std.specs.Prelude.{◌≡◌, ◌+◌, ◌*◌, ◌-◌, ◌<◌, ◌≤◌, ◌^◌, ◌++◌, ℕ, true, false, None, IfOk, OnOk, length, take, replicate, vec_len, vec_capacity};
 ghost use Rattle.semantics.specs.Machine.{start, is_enabled};
-ghost use Rattle.schedules.specs.Schedules.{runs};
+ghost use Rattle.semantics_schedules.specs.Schedules.{runs};
 ghost use Rattle.semantics.specs.Mask.{one_if};
 ghost use Rattle.walk.specs.inner.Paths.{IsPath, used_frames, frame_at, is_preempting, state_at};
-ghost use Rattle.items.specs.declared.mode.Mode.{Mode};
+ghost use Rattle.walk_items.specs.declared.mode.Mode.{Mode};
 ghost use Rattle.walk.specs.inner.WalkerInvariant.{IsPushed, IsExtended, left_above, still_open, at_bound};
 
 use guest_code::laws::programs_are_well_formed;
 use guest_code::limits::INSTRUCTIONS;
 use guest_code::program::Program;
-use items::mode::Mode;
-use machine::{Control, Machine, Reach, Run};
-use prefix_list::shared_len;
 use semantics::mask::Mask;
+use semantics_machine::{Control, Machine, Reach, Run};
 use std::alloc::{AllocError, Global};
-use summary::EndMemory;
+use walk_items::mode::Mode;
+use walk_prefixes::shared_len;
+use walk_summary::EndMemory;
 
 /// From how many steps on a run is filled in at once.
 const LONG_RUN: u32 = 8;

@@ -2,19 +2,19 @@
 
 ghost use Rattle.std.specs.Prelude.{◌≡◌, ◌+◌, ◌<◌, ◌≤◌, [], IfOk, OnOk};
 ghost use Rattle.std.specs.Arc.{arc_value};
-ghost use Rattle.summary.specs.Summaries.{nothing, greatest_count};
-ghost use Rattle.items.specs.Walks.{IsWalked, IsPastBound, walk_past_bound};
+ghost use Rattle.walk_summary.specs.Summaries.{nothing, greatest_count};
+ghost use Rattle.walk_items.specs.Walks.{IsWalked, IsPastBound, walk_past_bound};
 ghost use Rattle.walk.specs.Founds.{HasAdded};
 
 use crate::found::Found;
 use crate::path::Path;
 use crate::walked::Walked;
 use guest_code::program::Program;
-use items::item::Item;
-use items::mode::Mode;
 use std::alloc::{AllocError, Global};
 use std::marker::Model;
 use std::sync::Arc;
+use walk_items::item::Item;
+use walk_items::mode::Mode;
 
 /// Walks items of one program, and is kept from one item to the next: each walk begins where the
 /// one before ended, and goes back only to steps that the two prefixes have in common.

@@ -1,4 +1,4 @@
-use Rattle.items.proofs.Splits.{split_sum}
+use Rattle.walk_items.proofs.Splits.{split_sum}
 use Rattle.book.specs.Books.{with_deferred}
 use Rattle.book.proofs.BoundedSums.{thinned_bounded}
 use Rattle.book.proofs.Kept.{kept_whole, kept_within, kept_thinned}

@@ -1,4 +1,4 @@
-use Rattle.items.proofs.Splits.{split_sum}
+use Rattle.walk_items.proofs.Splits.{split_sum}
 use Rattle.book_laws.proofs.finished_and_open_join.Goals as goal
 
 pub returns : goal.returns

@@ -1,4 +1,4 @@
-use Rattle.items.proofs.Splits.{split_part}
+use Rattle.walk_items.proofs.Splits.{split_part}
 use Rattle.book_laws.proofs.finished_is_under_no_open_item.Goals as goal
 
 pub returns : goal.returns

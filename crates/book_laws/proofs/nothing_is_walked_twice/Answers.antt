@@ -1,7 +1,7 @@
 use Rattle.std.proofs.Common.{subst}
-use Rattle.items.specs.declared.mode.Mode.{Mode}
-use Rattle.items.specs.Walks.{IsSplit, IsWithin}
-use Rattle.items.proofs.Splits.{split_full}
+use Rattle.walk_items.specs.declared.mode.Mode.{Mode}
+use Rattle.walk_items.specs.Walks.{IsSplit, IsWithin}
+use Rattle.walk_items.proofs.Splits.{split_full}
 use Rattle.book_laws.proofs.nothing_is_walked_twice.Goals as goal
 
 pub returns : goal.returns

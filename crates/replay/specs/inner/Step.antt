@@ -2,7 +2,7 @@
 use Rattle.std.specs.Prelude.{◌≡◌, ℕ, ◌<◌, true, false, [], ◌∷◌, length}
 use Rattle.guest_code.specs.Program.{Program}
 use Rattle.semantics.specs.Machine.{Snapshot, next_of, is_enabled}
-use Rattle.schedules.specs.Execution.{ExecutionView, IsExecutionOf, stepped}
+use Rattle.semantics_schedules.specs.Execution.{ExecutionView, IsExecutionOf, stepped}
 use Rattle.replay.specs.declared.run.Line.{Line}
 use Rattle.replay.specs.declared.error.ReplayError.{ReplayError}
 use Rattle.replay.specs.declared.error.ReplayError.TheVariants.{NoSuchThread, NotEnabled, OutOfMemory}

@@ -1,9 +1,9 @@
 -- How a search ends.
 use Rattle.std.specs.Prelude.{◌≡◌, ◌<◌, ◌⊎◌, List, [], length, All, Result, Ok, Err}
-use Rattle.items.specs.declared.mode.Mode.{Mode}
-use Rattle.items.specs.Items.{ItemView, schedule_count}
+use Rattle.walk_items.specs.declared.mode.Mode.{Mode}
+use Rattle.walk_items.specs.Items.{ItemView, schedule_count}
 use Rattle.book.specs.Books.{BookView}
-use Rattle.report.specs.declared.error.ExploreError.{ExploreError}
+use Rattle.runner_report.specs.declared.error.ExploreError.{ExploreError}
 
 -- fewer schedules are left, or as many under fewer items
 abbrev pub IsSmaller : Mode → List ItemView → List ItemView → Type 0

@@ -3,12 +3,12 @@ use Rattle.std.specs.Prelude.{◌≡◌, ℕ, ◌*◌, ◌≤◌, ◌<◌, ℤ, 
 use Rattle.std.specs.Prelude.{[], length, take, drop, get_or, Option, Some, None}
 use Rattle.guest_code.specs.Program.{Program, IsWellFormed}
 use Rattle.semantics.specs.Machine.{Snapshot, start}
-use Rattle.machine.specs.declared.machine.Shape.{Shape}
-use Rattle.machine.specs.Refinement.{Shows, IsShown}
+use Rattle.semantics_machine.specs.declared.machine.Shape.{Shape}
+use Rattle.semantics_machine.specs.Refinement.{Shows, IsShown}
 use Rattle.semantics.specs.declared.mask.Mask.{Mask}
 use Rattle.semantics.specs.Mask.{has, no_threads, HasEnabled}
-use Rattle.schedules.specs.Schedules.{state_after}
-use Rattle.schedules.specs.Execution.{Reaches}
+use Rattle.semantics_schedules.specs.Schedules.{state_after}
+use Rattle.semantics_schedules.specs.Execution.{Reaches}
 use Rattle.walk.specs.declared.path.Node.{Node}
 use Rattle.walk.specs.declared.path.Frame.{Frame}
 use Rattle.walk.specs.declared.path.Path.{Path}

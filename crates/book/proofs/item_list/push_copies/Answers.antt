@@ -1,6 +1,6 @@
 use Rattle.std.proofs.Common.{rules, ◌≡◌, ◌-◌, ◌∙◌, ◌++◌, ◌∷◌, [], ap, subst, sym, arith, append_assoc, get_or, take, drop}
 use Rattle.std.proofs.lemmas.List.Elements.{All-nil, All-cons, All-append, All-get_or}
-use Rattle.items.specs.Items.{ItemView, AreOf}
+use Rattle.walk_items.specs.Items.{ItemView, AreOf}
 use Rattle.book.proofs.Lists.{one_more}
 use Rattle.book.proofs.item_list.push_copies.Goals as goal
 

@@ -1,6 +1,6 @@
 use Rattle.std.proofs.Common.{◌≡◌, ◌≤◌, ◌-◌, ◌++◌, take, drop}
 use Rattle.guest_code.specs.Program.{Program}
-use Rattle.items.specs.Items.{AreOf}
+use Rattle.walk_items.specs.Items.{AreOf}
 use Rattle.book.proofs.item_list.push_copies.Given as goal
 
 abbrev pub invariant-loop-place : goal.invariant-loop-place

@@ -1,6 +1,6 @@
 use Rattle.std.proofs.Common.{rules, ◌≡◌, ◌∙◌, get_or, slice_get, Some, sym, arith, refl}
 use Rattle.std.proofs.lemmas.List.{take_more_same}
-use Rattle.items.specs.Items.{ItemView}
+use Rattle.walk_items.specs.Items.{ItemView}
 use Rattle.book.proofs.PackedItems.{got-or}
 use Rattle.book.proofs.item_list.same_items.Goals as goal
 

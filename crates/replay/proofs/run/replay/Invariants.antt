@@ -1,5 +1,5 @@
 use Rattle.std.specs.Prelude.{All}
-use Rattle.schedules.specs.Execution.{IsExecutionOf}
+use Rattle.semantics_schedules.specs.Execution.{IsExecutionOf}
 use Rattle.replay.specs.Trace.{IsValidLine}
 use Rattle.replay.proofs.LinesOfSteps.{IsToldUpTo}
 use Rattle.replay.proofs.run.replay.Given as goal

@@ -1,6 +1,6 @@
 use Rattle.std.proofs.Common.{◌≡◌, ◌∙◌, sym, subst, refl, Option}
-use Rattle.items.specs.Items.{ItemView}
-use Rattle.report.specs.declared.error.ExploreError.TheVariants.{OutOfMemory}
+use Rattle.walk_items.specs.Items.{ItemView}
+use Rattle.runner_report.specs.declared.error.ExploreError.TheVariants.{OutOfMemory}
 use Rattle.runner.specs.declared.judge.Ending.{Ending}
 use Rattle.runner.specs.inner.Judging.{IsAt, ComesAfter}
 use Rattle.runner.proofs.AfterRounds.{kept_on}

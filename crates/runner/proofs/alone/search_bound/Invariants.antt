@@ -1,5 +1,5 @@
 use Rattle.std.proofs.Common.{◌≡◌, ◌*◌, ◌+◌, length}
-use Rattle.items.specs.Items.{schedule_count}
+use Rattle.walk_items.specs.Items.{schedule_count}
 use Rattle.runner.specs.inner.Judging.{IsAt}
 use Rattle.runner.proofs.alone.search_bound.Given as goal
 

@@ -1,5 +1,5 @@
 use Rattle.std.proofs.Common.{rules, ◌≡◌, ◌∙◌, ap, sym, subst, refl}
-use Rattle.items.specs.declared.mode.Mode.{Mode}
+use Rattle.walk_items.specs.declared.mode.Mode.{Mode}
 use Rattle.book.specs.Books.{BookView, opening_of}
 use Rattle.runner.specs.Levels.{AreBelow}
 use Rattle.runner.specs.inner.Judging.{first_mode, begun}

@@ -1,6 +1,6 @@
 use Rattle.std.proofs.Common.{◌≡◌, ◌∙◌, ap, subst, arith}
 use Rattle.guest_code.specs.Program.{IsWellFormed}
-use Rattle.schedules.specs.Schedules.{preemptions}
+use Rattle.semantics_schedules.specs.Schedules.{preemptions}
 use Rattle.replay.specs.Run.{Run}
 use Rattle.runner.proofs.Preemptions.{preemptions_fit}
 use Rattle.runner.proofs.course.preemptions_of.Goals as goal

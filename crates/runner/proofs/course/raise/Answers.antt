@@ -1,5 +1,5 @@
 use Rattle.std.proofs.Common.{◌∙◌, ap, sym, subst}
-use Rattle.items.specs.declared.mode.Mode.{Mode}
+use Rattle.walk_items.specs.declared.mode.Mode.{Mode}
 use Rattle.book.specs.Books.{BookView}
 use Rattle.runner.specs.inner.Judging.{AreKept, begun}
 use Rattle.runner.proofs.AfterRounds.{raised_at, level_kept}

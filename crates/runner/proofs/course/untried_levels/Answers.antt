@@ -1,6 +1,6 @@
 use Rattle.std.proofs.Common.{◌+◌, List, sym, subst, arith}
-use Rattle.items.specs.declared.mode.Mode.TheVariants.{Bounded}
-use Rattle.report.specs.declared.level.Level.{Level}
+use Rattle.walk_items.specs.declared.mode.Mode.TheVariants.{Bounded}
+use Rattle.runner_report.specs.declared.level.Level.{Level}
 use Rattle.runner.specs.Levels.{AreBelow}
 use Rattle.runner.proofs.AfterRounds.{one_more_below, past_level}
 use Rattle.runner.proofs.course.untried_levels.Goals as goal

@@ -1,7 +1,7 @@
 use Rattle.std.proofs.Common.{◌≤◌}
-use Rattle.schedules.specs.Schedules.{preemptions}
-use Rattle.items.specs.declared.mode.Mode.TheVariants.{Bounded}
-use Rattle.items.specs.Items.{ItemView, IsItem}
+use Rattle.semantics_schedules.specs.Schedules.{preemptions}
+use Rattle.walk_items.specs.declared.mode.Mode.TheVariants.{Bounded}
+use Rattle.walk_items.specs.Items.{ItemView, IsItem}
 use Rattle.runner.specs.Levels.{AreBelow}
 use Rattle.runner.proofs.course.untried_levels.Given as goal
 

@@ -1,6 +1,6 @@
 use Rattle.std.proofs.Common.{◌≡◌, ◌∙◌, ap, arith, Some}
-use Rattle.schedules.specs.Schedules.{preemptions}
-use Rattle.summary.specs.Summaries.{end_kind}
+use Rattle.semantics_schedules.specs.Schedules.{preemptions}
+use Rattle.walk_summary.specs.Summaries.{end_kind}
 use Rattle.replay.specs.Run.{Run}
 use Rattle.runner.proofs.Promises.{ends_somehow, runs_through}
 use Rattle.runner.proofs.Preemptions.{preemptions_fit}

@@ -1,6 +1,6 @@
 use Rattle.std.proofs.Common.{◌≡◌, ◌∙◌, ap, sym, subst, None}
-use Rattle.items.specs.declared.mode.Mode.{Mode}
-use Rattle.summary.specs.Summaries.{SummaryView}
+use Rattle.walk_items.specs.declared.mode.Mode.{Mode}
+use Rattle.walk_summary.specs.Summaries.{SummaryView}
 use Rattle.runner.specs.inner.Judging.{IsFinishedIn, IsBoundBelow}
 use Rattle.runner.proofs.Judgments.{whole_is_finished, below_is_finished}
 use Rattle.runner.proofs.reports.last_finished_bound.Goals as goal

@@ -1,7 +1,7 @@
 use Rattle.std.proofs.Common.{sym, subst, Bool}
 use Rattle.std.proofs.lemmas.Result.{IfOk-weaker}
-use Rattle.items.specs.Items.{root_of}
-use Rattle.report.specs.Promises.{IsReport}
+use Rattle.walk_items.specs.Items.{root_of}
+use Rattle.runner_report.specs.Promises.{IsReport}
 use Rattle.runner.specs.declared.judge.Ending.{Ending}
 use Rattle.runner.specs.Levels.{HasPassed}
 use Rattle.runner.specs.inner.Judging.{IsFound, Ends}

@@ -1,6 +1,6 @@
 use Rattle.std.proofs.Common.{sym, subst}
 use Rattle.std.proofs.lemmas.Result.{IfOk-weaker}
-use Rattle.report.specs.Promises.{IsReport}
+use Rattle.runner_report.specs.Promises.{IsReport}
 use Rattle.runner.proofs.Judgments.{whole_is_reported}
 use Rattle.runner.proofs.reports.whole_report.Goals as goal
 

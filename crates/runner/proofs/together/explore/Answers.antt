@@ -2,8 +2,8 @@ use Rattle.std.proofs.Common.{subst, refl, true, false}
 use Rattle.std.proofs.lemmas.Result.{IfOk-weaker}
 use Rattle.std.specs.Arc.{arc_value}
 use Rattle.guest_code.specs.Program.{Program}
-use Rattle.items.specs.Items.{root_of}
-use Rattle.report.specs.Promises.{IsReport}
+use Rattle.walk_items.specs.Items.{root_of}
+use Rattle.runner_report.specs.Promises.{IsReport}
 use Rattle.runner.proofs.AfterRounds.{course_at, report_ready, ends_weaker}
 use Rattle.runner.proofs.together.explore.Goals as goal
 

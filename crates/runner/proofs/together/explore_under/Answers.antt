@@ -1,8 +1,8 @@
 use Rattle.std.proofs.Common.{◌<◌, subst, sym, true, arith}
 use Rattle.std.proofs.lemmas.Result.{IfOk-weaker}
-use Rattle.schedules.specs.Schedules.{preemptions}
-use Rattle.items.specs.Items.{ItemView}
-use Rattle.report.specs.declared.options.Options.{Options}
+use Rattle.semantics_schedules.specs.Schedules.{preemptions}
+use Rattle.walk_items.specs.Items.{ItemView}
+use Rattle.runner_report.specs.declared.options.Options.{Options}
 use Rattle.runner.specs.Levels.{AreLevels}
 use Rattle.runner.specs.inner.Judging.{Ends}
 use Rattle.runner.proofs.AfterRounds.{course_at, course_itself, ended_at, unquick}

@@ -1,8 +1,8 @@
 use Rattle.std.proofs.Common.{◌≡◌, ◌∙◌, ap, sym, subst, refl, true, Option, IfSome}
-use Rattle.items.specs.Items.{ItemView}
+use Rattle.walk_items.specs.Items.{ItemView}
 use Rattle.runner.specs.declared.judge.Ending.{Ending}
 use Rattle.runner.specs.inner.Judging.{IsAt, Ends}
-use Rattle.workers.proofs.Teams.{same_workers}
+use Rattle.runner_workers.proofs.Teams.{same_workers}
 use Rattle.runner.proofs.AfterRounds.{kept_on, ends_weaker}
 use Rattle.runner.proofs.together.search.Goals as goal
 

@@ -1,6 +1,6 @@
 use Rattle.std.proofs.Common.{Bool}
 use Rattle.runner.specs.inner.Judging.{IsAt, AreKept}
-use Rattle.workers.specs.Teams.{IsTeam}
+use Rattle.runner_workers.specs.Teams.{IsTeam}
 use Rattle.runner.proofs.together.search.Given as goal
 
 abbrev pub invariant-loop : goal.invariant-loop

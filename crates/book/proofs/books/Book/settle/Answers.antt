@@ -2,8 +2,8 @@ use Rattle.std.proofs.Common.{◌≡◌, ◌≤◌, ◌<◌, ◌∙◌, ℕ, Lis
 use Rattle.std.specs.List.{remove}
 use Rattle.std.proofs.lemmas.List.Elements.{All-nil, All-cons}
 use Rattle.guest_code.specs.Program.{Program}
-use Rattle.items.specs.Items.{ItemView, AreOf}
-use Rattle.items.specs.Walks.{WalkView}
+use Rattle.walk_items.specs.Items.{ItemView, AreOf}
+use Rattle.walk_items.specs.Walks.{WalkView}
 use Rattle.walk.specs.Founds.{found_walk}
 use Rattle.book.specs.ItemLists.{all_of}
 use Rattle.book.specs.Books.{BookView, Keeps, IsOpenAt, settled, taken_in}

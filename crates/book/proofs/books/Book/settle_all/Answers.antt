@@ -1,5 +1,5 @@
 use Rattle.std.proofs.Common.{rules, ◌≡◌, ◌∙◌, false, not, ◌&&◌, refl, ap, sym, subst, IfSome, IfNone, inl, inr}
-use Rattle.items.specs.Items.{AreOf}
+use Rattle.walk_items.specs.Items.{AreOf}
 use Rattle.book.specs.ItemLists.{all_of}
 use Rattle.book.specs.Books.{BookView, Keeps, AreWithin, AreOpenAt, StandInOrder, HaveSettled, taken_in, remove_each}
 use Rattle.book.proofs.BookFields.{book_of}

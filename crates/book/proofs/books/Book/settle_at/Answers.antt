@@ -2,10 +2,10 @@ use Rattle.std.proofs.Common.{refl, ◌≡◌, ◌∙◌, ◌++◌, ◌≤◌, s
 use Rattle.std.proofs.Common.{◌&&◌}
 use Rattle.std.specs.List.{All}
 use Rattle.std.proofs.lemmas.List.Elements.{All-weaker}
-use Rattle.items.specs.Items.{IsItem}
-use Rattle.items.specs.Walks.{items_at, listed_if}
-use Rattle.items.proofs.Listed.{listed_items}
-use Rattle.items.proofs.ListParts.{all_right}
+use Rattle.walk_items.specs.Items.{IsItem}
+use Rattle.walk_items.specs.Walks.{items_at, listed_if}
+use Rattle.walk_items.proofs.Listed.{listed_items}
+use Rattle.walk_items.proofs.ListParts.{all_right}
 use Rattle.book.specs.ItemLists.{all_of}
 use Rattle.book.specs.Books.{BookView, Keeps, IsSwept, taken_in, remove_each, AreWithin}
 use Rattle.book.proofs.BookFields.{book_of}

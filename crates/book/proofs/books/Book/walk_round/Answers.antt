@@ -1,6 +1,6 @@
 use Rattle.std.proofs.Common.{◌≡◌, ◌≤◌, ◌+◌, ◌-◌, ◌∙◌, ap, sym, subst, arith, refl, length, take, replicate, ℕ, List}
 use Rattle.std.proofs.lemmas.List.Elements.{All-weaker, All-take, All-replicate}
-use Rattle.items.specs.Items.{ItemView}
+use Rattle.walk_items.specs.Items.{ItemView}
 use Rattle.book.specs.Books.{BookView, Keeps, AreWithin, HasWalkedRound, taken_in, remove_each}
 use Rattle.book.proofs.BookFields.{book_of}
 use Rattle.book.proofs.OpenItems.{same_of, open_run, run_of}

@@ -1,5 +1,5 @@
 use Rattle.std.proofs.Common.{rules, ◌≡◌, ◌∙◌, [], false, ap, arith}
-use Rattle.items.specs.Items.{item_sum}
+use Rattle.walk_items.specs.Items.{item_sum}
 use Rattle.book.specs.Books.{BookView}
 use Rattle.book.proofs.BookFields.{book_of}
 use Rattle.book.proofs.BoundedSums.{closed_sum, never_dropped}

@@ -4,7 +4,7 @@ use Rattle.std.proofs.Math.Seq.{take-suc}
 use Rattle.std.proofs.lemmas.List.{get_or-drop, drop-drop}
 use Rattle.std.proofs.lemmas.List.Elements.{All-nil, All-cons, All-append}
 use Rattle.guest_code.specs.Program.{Program}
-use Rattle.items.specs.Items.{ItemView}
+use Rattle.walk_items.specs.Items.{ItemView}
 use Rattle.book.specs.ItemLists.{all_of}
 use Rattle.book.specs.Books.{remove_each, AreOpenAt, StandInOrder}
 use Rattle.book.proofs.PackedItems.{length-all, got-or, got-unpacked}

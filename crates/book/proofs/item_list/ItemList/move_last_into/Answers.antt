@@ -1,5 +1,5 @@
 use Rattle.std.proofs.Common.{◌≡◌, ◌-◌, ◌∙◌, ◌++◌, [], ap, arith, length, take, drop}
-use Rattle.items.specs.Walks.{items_at}
+use Rattle.walk_items.specs.Walks.{items_at}
 use Rattle.book.specs.ItemLists.{ListView, list_view, all_of}
 use Rattle.book.proofs.PackedItems.{kept_unpacked, moved_unpacked, kept_packed, moved_packed}
 use Rattle.book.proofs.item_list.ItemList.move_last_into.Goals as goal

@@ -3,8 +3,8 @@ use Rattle.std.specs.List.{remove}
 use Rattle.std.proofs.lemmas.List.{length-map}
 use Rattle.std.proofs.lemmas.List.Edits.{remove-append_right}
 use Rattle.std.proofs.Math.Seq.{drop-cons}
-use Rattle.items.specs.Items.{item_at}
-use Rattle.items.specs.Walks.{items_at}
+use Rattle.walk_items.specs.Items.{item_at}
+use Rattle.walk_items.specs.Walks.{items_at}
 use Rattle.book.specs.ItemLists.{all_of, list_view}
 use Rattle.book.specs.Books.{remove_each}
 use Rattle.book.proofs.Lists.{removed_any, within_same, each_same}

@@ -1,6 +1,6 @@
 use Rattle.std.proofs.Common.{subst, IfOk, IfNone, IfSome, List, sym, ◌∙◌, refl}
 use Rattle.std.specs.Arc.{arc_value}
-use Rattle.items.specs.Items.{ItemView}
+use Rattle.walk_items.specs.Items.{ItemView}
 use Rattle.book.specs.ItemLists.{all_of}
 use Rattle.book.specs.Books.{AreOpenAt, StandInOrder}
 use Rattle.book.proofs.PackedItems.{still_own}

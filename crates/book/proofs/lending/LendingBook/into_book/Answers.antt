@@ -2,9 +2,9 @@ use Rattle.std.proofs.Common.{rules, refl, arith, ◌≡◌, ◌++◌, ◌∷◌
 use Rattle.std.specs.Arc.{arc_value}
 use Rattle.std.specs.List.{All}
 use Rattle.std.proofs.lemmas.List.Sorted.{All-permutation}
-use Rattle.items.specs.Items.{IsItem, ItemView}
-use Rattle.items.specs.Walks.{items_at}
-use Rattle.items.proofs.ListParts.{all_left, all_right}
+use Rattle.walk_items.specs.Items.{IsItem, ItemView}
+use Rattle.walk_items.specs.Walks.{items_at}
+use Rattle.walk_items.proofs.ListParts.{all_left, all_right}
 use Rattle.book.specs.ItemLists.{ListView, all_of}
 use Rattle.book.specs.Books.{Keeps}
 use Rattle.book.specs.Lending.{LendingView, as_book, all_lent}

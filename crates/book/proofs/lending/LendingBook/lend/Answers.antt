@@ -1,7 +1,7 @@
 use Rattle.std.proofs.Common.{rules, ◌≡◌, ◌∙◌, ◌++◌, ◌<◌, [], refl, ap, sym, subst, arith, length, get_or, set, take, slice_get, List, ◌-◌}
 use Rattle.std.proofs.lemmas.List.{map-set}
-use Rattle.items.specs.Items.{ItemView}
-use Rattle.items.specs.Walks.{items_at}
+use Rattle.walk_items.specs.Items.{ItemView}
+use Rattle.walk_items.specs.Walks.{items_at}
 use Rattle.book.specs.ItemLists.{ListView, all_of}
 use Rattle.book.specs.Books.{Keeps}
 use Rattle.book.specs.Lending.{LendingView, Lends, Reorders, IsLoanOf, Has, as_book, last_free, lending_view, lent_to}

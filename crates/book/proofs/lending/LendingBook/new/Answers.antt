@@ -1,6 +1,6 @@
 use Rattle.std.proofs.Common.{◌≡◌, ◌∙◌, [], ◌∷◌, ◌++◌, ap, sym, subst, map}
 use Rattle.std.proofs.lemmas.List.{map-append, replicate_more}
-use Rattle.items.specs.Walks.{items_at}
+use Rattle.walk_items.specs.Walks.{items_at}
 use Rattle.book.specs.ItemLists.{all_of}
 use Rattle.book.specs.Books.{BookView, Keeps}
 use Rattle.book.proofs.LendingFields.{not_lent_yet}

@@ -1,6 +1,6 @@
 use Rattle.std.proofs.Common.{◌≡◌, ◌∙◌, ◌+◌, ◌<◌, ◌≤◌, ◌++◌, ap, sym, subst, arith, length, get_or, take}
 use Rattle.std.proofs.lemmas.List.{length-map, take_all}
-use Rattle.summary.specs.Summaries.{cut}
+use Rattle.walk_summary.specs.Summaries.{cut}
 use Rattle.book.specs.ItemLists.{ListView, all_of}
 use Rattle.book.specs.Lending.{LendingView, all_lent}
 use Rattle.book.proofs.LendingFields.{lending_of}

@@ -1,5 +1,5 @@
 use Rattle.std.proofs.Common.{◌≡◌, ◌++◌, length, take}
-use Rattle.summary.specs.Summaries.{cut}
+use Rattle.walk_summary.specs.Summaries.{cut}
 use Rattle.book.specs.Lending.{all_lent}
 use Rattle.book.proofs.lending.LendingBook.progress.Given as goal
 

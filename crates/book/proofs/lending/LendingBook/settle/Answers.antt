@@ -2,10 +2,10 @@ use Rattle.std.proofs.Common.{rules, ◌≡◌, ◌∙◌, ◌<◌, ◌++◌, []
 use Rattle.std.specs.Arc.{arc_value}
 use Rattle.std.specs.List.{All}
 use Rattle.std.proofs.lemmas.List.{map-set}
-use Rattle.items.specs.Items.{IsItem, AreOf}
-use Rattle.items.specs.Walks.{items_at, listed_if}
-use Rattle.items.proofs.Listed.{listed_items}
-use Rattle.items.proofs.ListParts.{all_right}
+use Rattle.walk_items.specs.Items.{IsItem, AreOf}
+use Rattle.walk_items.specs.Walks.{items_at, listed_if}
+use Rattle.walk_items.proofs.Listed.{listed_items}
+use Rattle.walk_items.proofs.ListParts.{all_right}
 use Rattle.book.specs.ItemLists.{ListView, all_of}
 use Rattle.book.specs.Books.{Keeps, HaveSettled}
 use Rattle.book.specs.Lending.{LendingView, Has, as_book, lending_view}

@@ -1,5 +1,5 @@
 use Rattle.std.proofs.Common.{rules, ◌≡◌, ◌∙◌, ◌+◌, ◌-◌, ap, sym, arith, length, get_or}
-use Rattle.items.specs.Items.{ItemView}
+use Rattle.walk_items.specs.Items.{ItemView}
 use Rattle.runner.proofs.Shrinks.{round_less, last_at}
 use Rattle.runner.proofs.alone.Lone.walk_and_settle_each.Goals as goal
 

@@ -1,6 +1,6 @@
 use Rattle.std.proofs.Common.{◌∷◌, ◌++◌, [], ◌∙◌, ℕ, List, take, drop, ◌+◌, ◌-◌, refl, ap, sym, arith}
 use Rattle.std.proofs.lemmas.List.{length-take-le}
-use Rattle.prefix_list.specs.PrefixLists.{last_of}
+use Rattle.walk_prefixes.specs.PrefixLists.{last_of}
 use Rattle.walk.proofs.SharedSteps.{put_beside, shared_put}
 use Rattle.walk.proofs.found.Found.defer_one.Goals as goal
 

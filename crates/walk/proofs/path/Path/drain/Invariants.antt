@@ -1,6 +1,6 @@
 use Rattle.std.proofs.Common.{◌≡◌, ◌+◌, ◌++◌, false, [], All}
 use Rattle.semantics.specs.Mask.{one_if}
-use Rattle.items.specs.Items.{IsItem}
+use Rattle.walk_items.specs.Items.{IsItem}
 use Rattle.walk.specs.inner.WalkerInvariant.{IsPlace, still_open, turns_left}
 use Rattle.walk.proofs.path.Path.drain.Given as goal
 

@@ -2,9 +2,9 @@ use Rattle.std.proofs.Common.{◌≡◌, arith, ◌+◌, ◌∙◌, ◌<◌, ◌
 use Rattle.std.proofs.Common.{List, replicate, refl, ap}
 use Rattle.semantics.specs.Machine.{is_enabled}
 use Rattle.semantics.specs.Mask.{HasEnabled, one_if}
-use Rattle.schedules.specs.Schedules.{preempts}
-use Rattle.schedules.proofs.Executions.{reaches_few}
-use Rattle.schedules.proofs.ScheduleLengths.{schedule_within}
+use Rattle.semantics_schedules.specs.Schedules.{preempts}
+use Rattle.semantics_schedules.proofs.Executions.{reaches_few}
+use Rattle.semantics_schedules.proofs.ScheduleLengths.{schedule_within}
 use Rattle.walk.specs.inner.Paths.{state_at}
 use Rattle.walk.specs.inner.WalkerInvariant.{at_bound}
 use Rattle.walk.proofs.PathSteps.{left_extended, preempts_is}

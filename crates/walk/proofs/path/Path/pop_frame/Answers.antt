@@ -1,5 +1,5 @@
 use Rattle.std.proofs.Common.{◌≤◌, ◌+◌, ◌-◌, ◌≡◌, ◌∙◌, arith, ap, sym}
-use Rattle.items.specs.Children.{costs}
+use Rattle.walk_items.specs.Children.{costs}
 use Rattle.walk.specs.inner.WalkerInvariant.{turns_left}
 use Rattle.walk.proofs.PathSteps.{open_done}
 use Rattle.walk.proofs.path.Path.pop_frame.Goals as goal

@@ -2,7 +2,7 @@ use Rattle.std.proofs.Common.{arith, ◌≡◌, ◌∙◌, ◌+◌, ◌-◌, ◌
 use Rattle.std.proofs.Common.{subst, take, drop}
 use Rattle.std.proofs.Math.Path.{transport}
 use Rattle.std.proofs.lemmas.List.{get_or_default, take-take, get_or-take}
-use Rattle.machine.specs.Refinement.{Shows, IsShown}
+use Rattle.semantics_machine.specs.Refinement.{Shows, IsShown}
 use Rattle.walk.specs.declared.path.Frame.{Frame}
 use Rattle.walk.specs.inner.Paths.{used_frames, words_at, state_at, frame_at, no_frame}
 use Rattle.walk.proofs.PathSteps.{path_popped, left_popped, same_values}

@@ -1,5 +1,5 @@
 use Rattle.std.proofs.Common.{ℕ, List, length, true, false, ap, arith, rules}
-use Rattle.schedules.proofs.ScheduleLengths.{schedule_within}
+use Rattle.semantics_schedules.proofs.ScheduleLengths.{schedule_within}
 use Rattle.walk.specs.inner.WalkerInvariant.{turns_next}
 use Rattle.walk.proofs.Expansions.{next_is}
 use Rattle.walk.proofs.path.Path.run.Goals as goal

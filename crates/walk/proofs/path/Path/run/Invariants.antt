@@ -1,5 +1,5 @@
 use Rattle.std.proofs.Common.{◌≡◌, ◌≤◌, ◌-◌, false, length}
-use Rattle.schedules.specs.declared.limits.TheConstants.{STEPS}
+use Rattle.semantics_schedules.specs.declared.limits.TheConstants.{STEPS}
 use Rattle.walk.specs.inner.Paths.{IsPath}
 use Rattle.walk.specs.inner.WalkerInvariant.{GoesOn, IsFree, open_below, open_next}
 use Rattle.walk.specs.inner.WalkerInvariant.{turns_into, turns_next}

@@ -1,5 +1,5 @@
 use Rattle.std.proofs.Common.{◌≡◌, ◌<◌, [], OnOk, sym, subst}
-use Rattle.items.specs.declared.mode.Mode.{Mode}
+use Rattle.walk_items.specs.declared.mode.Mode.{Mode}
 use Rattle.walk.specs.inner.WalkerInvariant.{Searches, GoesOn, still_open}
 use Rattle.walk.proofs.path.Path.search.Goals as goal
 

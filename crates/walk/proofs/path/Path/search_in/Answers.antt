@@ -1,5 +1,5 @@
 use Rattle.std.proofs.Common.{◌++◌, ℕ, List, arith, ap, refl, rules}
-use Rattle.items.specs.Children.{children_of, costs}
+use Rattle.walk_items.specs.Children.{children_of, costs}
 use Rattle.walk.specs.inner.WalkerInvariant.{here, left_above, turns_left}
 use Rattle.walk.proofs.Expansions.{turned_here, search_turned}
 use Rattle.walk.proofs.path.Path.search_in.Goals as goal

@@ -1,7 +1,7 @@
 use Rattle.std.proofs.Common.{◌≡◌, sym, subst}
-use Rattle.items.specs.declared.mode.Mode.{Mode}
+use Rattle.walk_items.specs.declared.mode.Mode.{Mode}
 use Rattle.walk.specs.inner.Paths.{state_at}
-use Rattle.items.specs.Children.{mask_after}
+use Rattle.walk_items.specs.Children.{mask_after}
 use Rattle.walk.specs.inner.WalkerInvariant.{here}
 use Rattle.walk.proofs.path.Path.sleepers.Goals as goal
 

@@ -4,7 +4,7 @@ use Rattle.guest_code.specs.Program.{Program}
 use Rattle.semantics.specs.Machine.{is_enabled}
 use Rattle.semantics.specs.Mask.{members_from}
 use Rattle.semantics.proofs.WorkFalls.{enabled_below}
-use Rattle.items.specs.Children.{mask_after, cost_of}
+use Rattle.walk_items.specs.Children.{mask_after, cost_of}
 use Rattle.walk.specs.declared.path.Path.{Path}
 use Rattle.walk.specs.inner.Paths.{state_at, IsPath}
 use Rattle.walk.specs.inner.WalkerInvariant.{left_above, here, item_of, IsExtended, IsAlong}

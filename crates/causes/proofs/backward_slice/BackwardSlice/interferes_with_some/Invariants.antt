@@ -1,9 +1,0 @@
-use Rattle.std.proofs.Common.{◌≡◌}
-use Rattle.std.specs.Prelude.{false}
-use Rattle.causes.specs.Causes.{any_below}
-use Rattle.causes.specs.inner.Keeping.{is_missed_by_in}
-use Rattle.causes.proofs.backward_slice.BackwardSlice.interferes_with_some.Given as goal
-
-abbrev pub invariant-loop-other : goal.invariant-loop-other
-invariant-loop-other l =
-    any_below (is_missed_by_in l.self l.thread l.variable) l.other ≡ false

@@ -1,9 +1,0 @@
-use Rattle.std.proofs.Common.{◌∙◌, sym, subst}
-use Rattle.std.specs.Prelude.{All}
-use Rattle.causes.specs.inner.Wanting.{IsValidEvent}
-use Rattle.causes.proofs.Valid.{course_valid}
-use Rattle.causes.proofs.causes.Causes.of.Goals as goal
-
-pub marks_of-requires : goal.marks_of-requires
-marks_of-requires c = subst (All (IsValidEvent c.args.program.now)) (sym (c.as_slice.ensures.value ∙ c.in_ok-events.ensures))
-    (course_valid c.args.program.now c.args.explanation.now c.keeps_limits.ensures)

@@ -1,5 +1,0 @@
-use Rattle.causes.specs.Changes.{IsUnchanged}
-use Rattle.causes.proofs.changes.next_change.Given as goal
-
-abbrev pub invariant-loop-place : goal.invariant-loop-place
-invariant-loop-place l = IsUnchanged l.steps l.variable l.from l.place

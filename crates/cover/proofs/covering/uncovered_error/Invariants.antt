@@ -1,4 +1,0 @@
-use Rattle.cover.proofs.covering.uncovered_error.Given as goal
-
-abbrev pub invariant-loop-steps : goal.invariant-loop-steps
-invariant-loop-steps l = Unit {0}

@@ -1,9 +1,0 @@
-use Rattle.cover.proofs.Covers.{prefixes_cover}
-use Rattle.cover.proofs.Lengths.{prefixes_rise}
-use Rattle.cover.proofs.laws.prefixes_of_a_length_are_a_cover.Goals as goal
-
-pub returns-clause-cover : goal.returns-clause-cover
-returns-clause-cover c = prefixes_cover
-
-pub returns-clause-rising : goal.returns-clause-rising
-returns-clause-rising c = prefixes_rise

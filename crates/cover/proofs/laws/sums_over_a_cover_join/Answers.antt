@@ -1,9 +1,0 @@
-use Rattle.items.specs.Items.{root_of}
-use Rattle.cover.proofs.Covers.{cover_sum}
-use Rattle.cover.proofs.laws.sums_over_a_cover_join.Goals as goal
-
-pub returns-clause-program : goal.returns-clause-program
-returns-clause-program c = λ mode p items h. cover_sum mode (root_of p) items h
-
-pub returns-clause-item : goal.returns-clause-item
-returns-clause-item c = cover_sum

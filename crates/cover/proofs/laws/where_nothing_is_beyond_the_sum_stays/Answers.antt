@@ -1,5 +1,0 @@
-use Rattle.cover.proofs.Settled.{settled_sum}
-use Rattle.cover.proofs.laws.where_nothing_is_beyond_the_sum_stays.Goals as goal
-
-pub returns : goal.returns
-returns c = settled_sum

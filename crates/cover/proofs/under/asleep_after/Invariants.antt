@@ -1,5 +1,0 @@
-use Rattle.cover.proofs.Asleep.{IsTaken}
-use Rattle.cover.proofs.under.asleep_after.Given as goal
-
-abbrev pub invariant-loop-thread : goal.invariant-loop-thread
-invariant-loop-thread l = IsTaken l.program l.prefix l.thread-index l.state l.asleep

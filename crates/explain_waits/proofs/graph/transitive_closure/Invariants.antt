@@ -1,0 +1,6 @@
+use Rattle.explain_waits.specs.Graph.{IsIn}
+use Rattle.explain_waits.proofs.Closures.{AreThrough}
+use Rattle.explain_waits.proofs.graph.transitive_closure.Given as goal
+
+abbrev pub invariant-loop-k : goal.invariant-loop-k
+invariant-loop-k l = AreThrough (IsIn l.fn.edges) l.k l.rows

@@ -1,5 +1,0 @@
-use Rattle.items.proofs.WalkedItems.{walked_sum}
-use Rattle.items.proofs.laws.part_and_rest_join.Goals as goal
-
-pub returns : goal.returns
-returns c = walked_sum

@@ -1,5 +1,0 @@
-use Rattle.items.proofs.WalkedItems.{walked_part}
-use Rattle.items.proofs.laws.part_is_the_sum_of_what_was_tried.Goals as goal
-
-pub returns : goal.returns
-returns c = walked_part

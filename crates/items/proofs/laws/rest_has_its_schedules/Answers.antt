@@ -1,5 +1,0 @@
-use Rattle.items.proofs.WalkedItems.{walked_has}
-use Rattle.items.proofs.laws.rest_has_its_schedules.Goals as goal
-
-pub returns : goal.returns
-returns c = walked_has

@@ -1,5 +1,0 @@
-use Rattle.items.proofs.WalkedItems.{walked_tried}
-use Rattle.items.proofs.laws.tried_are_under_none.Goals as goal
-
-pub returns : goal.returns
-returns c = walked_tried

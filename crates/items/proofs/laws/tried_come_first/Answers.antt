@@ -1,5 +1,0 @@
-use Rattle.items.proofs.WalkedItems.{walked_order}
-use Rattle.items.proofs.laws.tried_come_first.Goals as goal
-
-pub returns : goal.returns
-returns c = walked_order

@@ -1,5 +1,0 @@
-pub use Rattle.summary.specs.Summaries
-pub mod Items
-pub mod Walks
-pub mod FullSums
-pub mod Children

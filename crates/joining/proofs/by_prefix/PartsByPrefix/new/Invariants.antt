@@ -1,6 +1,0 @@
-use Rattle.std.proofs.Common.{take}
-use Rattle.joining.specs.inner.Lines.{AreByPrefix}
-use Rattle.joining.proofs.by_prefix.PartsByPrefix.new.Given as goal
-
-abbrev pub invariant-loop-part : goal.invariant-loop-part
-invariant-loop-part l = AreByPrefix (take l.part-index l.parts) l.by_prefix

@@ -1,5 +1,0 @@
-use Rattle.lint.proofs.PathMarks.{Passed}
-use Rattle.lint.proofs.paths.mark_paths.Given as goal
-
-abbrev pub invariant-loop-at : goal.invariant-loop-at
-invariant-loop-at l = Passed l.marks l.code l.watch l.start l.holds l.at

@@ -1,6 +1,0 @@
-use Rattle.std.proofs.Common.{◌≡◌, ◌++◌}
-use Rattle.lint.specs.Warnings.{kinds_of_objects, kinds_of_threads}
-use Rattle.lint.proofs.warnings.kinds.Given as goal
-
-abbrev pub invariant-loop-thread : goal.invariant-loop-thread
-invariant-loop-thread l = l.all.items ≡ kinds_of_objects ++ kinds_of_threads l.thread

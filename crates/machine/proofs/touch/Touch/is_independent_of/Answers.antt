@@ -1,5 +1,0 @@
-use Rattle.machine.proofs.TouchBits.{steps_apart}
-use Rattle.machine.proofs.touch.Touch.is_independent_of.Goals as goal
-
-pub returns : goal.returns
-returns c = λ a b h k. steps_apart c.args.self c.args.other a b h k

@@ -1,6 +1,0 @@
-use Rattle.std.proofs.Common.{◌≡◌, map, take}
-use Rattle.machine.specs.Touches.{touches_at}
-use Rattle.machine.proofs.touch.thread_touches.Given as goal
-
-abbrev pub invariant-loop-k : goal.invariant-loop-k
-invariant-loop-k l = l.places.items ≡ map touches_at (take l.k l.code)

@@ -1,5 +1,0 @@
-use Rattle.semantics.specs.Reachable.{IsOf}
-use Rattle.program_tests.proofs.states.check_run.Given as goal
-
-abbrev pub invariant-loop-t : goal.invariant-loop-t
-invariant-loop-t g l = IsOf l.p l.state

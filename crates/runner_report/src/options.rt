@@ -1,0 +1,54 @@
+//! What a search is asked for.
+
+ghost use Rattle.std.specs.Prelude.{◌≡◌, None, false};
+ghost use Rattle.runner_report.specs.declared.limits.TheConstants.{QUOTA};
+
+use crate::limits::QUOTA;
+
+/// How far a search goes.
+#[derive(Clone, Copy, PartialEq, Eq)]
+pub enum Search {
+    /// Through all complete schedules with no preemption, then with at most one, and so on, up to
+    /// this bound; it ends at the first bound within which a schedule is bad. At most
+    /// [`BOUND`](crate::limits::BOUND).
+    ///
+    /// Musuvathi and Qadeer, "Iterative Context Bounding for Systematic Testing of Multithreaded
+    /// Programs" (PLDI 2007).
+    UpTo(u32),
+    /// Through the complete schedules that sleep sets leave, whatever their preemptions.
+    ///
+    /// The idea of sleep sets is that of Godefroid, "Partial-Order Methods for the Verification of
+    /// Concurrent Systems" (1996).
+    Unbounded,
+}
+
+/// What a search is asked for.
+#[derive(Clone, Copy, PartialEq, Eq)]
+pub struct Options {
+    /// How far the search goes.
+    pub search: Search,
+    /// After a round by which this many schedules were tried, the search is cut short, unless
+    /// it has its answer.
+    pub limit: Option<u64>,
+    /// How many complete schedules one walk tries at most; at least 1. A quota changes no Clean or
+    /// Bad report but a quick one's summary.
+    pub quota: u32,
+    /// Whether to leave out, once a bad schedule is found, what can't have the first bad one.
+    pub quick: bool,
+}
+
+impl Options {
+    /// The options of a search that goes as far as `search` says, with no limit, the quota `QUOTA`,
+    /// and not quick.
+    pub fn new(search: Search) -> Options
+        ensures { result ≡
+            record { search = search; limit = None; quota = QUOTA; quick = false } }
+    {
+        Options {
+            search,
+            limit: None,
+            quota: QUOTA,
+            quick: false,
+        }
+    }
+}

@@ -1,5 +1,0 @@
-use Rattle.schedules.proofs.StatedLaws.{views}
-use Rattle.schedules.proofs.laws.independence.ends_are_kept.Goals as goal
-
-pub returns : goal.returns
-returns c = views

@@ -1,5 +1,0 @@
-use Rattle.schedules.proofs.IndependentStepsCommute.{commute}
-use Rattle.schedules.proofs.laws.independence.independent_commute.Goals as goal
-
-pub returns : goal.returns
-returns c = commute

@@ -1,5 +1,0 @@
-use Rattle.schedules.proofs.ReducedSchedules.{least_bad}
-use Rattle.schedules.proofs.laws.independence.least_bad_is_kept.Goals as goal
-
-pub returns : goal.returns
-returns c = least_bad

@@ -1,5 +1,0 @@
-use Rattle.schedules.proofs.StatedLaws.{keeps}
-use Rattle.schedules.proofs.laws.independence.pruned_schedules_are_redundant.Goals as goal
-
-pub returns : goal.returns
-returns c = keeps

@@ -1,5 +1,0 @@
-use Rattle.schedules.proofs.LeastSchedule.{slices_order}
-use Rattle.schedules.proofs.laws.order.order_is_that_of_slices.Goals as goal
-
-pub returns : goal.returns
-returns c = slices_order

@@ -1,9 +1,0 @@
-use Rattle.schedules.proofs.LeastSchedule.{never_before_itself, before_later, either_first}
-use Rattle.schedules.proofs.laws.order.order_is_total.Goals as goal
-
-pub returns : goal.returns
-returns c = record {
-  never_itself = never_before_itself;
-  later = before_later;
-  either = either_first;
-}

@@ -1,5 +1,0 @@
-use Rattle.schedules.proofs.RunsKeepStates.{over_keeps, over_stays}
-use Rattle.schedules.proofs.laws.reachable.threads_that_are_over_keep_their_mutexes.Goals as goal
-
-pub returns : goal.returns
-returns c = record { mutexes = over_keeps; thread = over_stays }

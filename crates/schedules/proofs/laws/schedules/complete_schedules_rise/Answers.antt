@@ -1,5 +1,0 @@
-use Rattle.schedules.proofs.CompleteSchedulesRise.{all_rise}
-use Rattle.schedules.proofs.laws.schedules.complete_schedules_rise.Goals as goal
-
-pub returns : goal.returns
-returns c = all_rise

@@ -1,5 +1,0 @@
-use Rattle.schedules.proofs.SchedulesUnderPrefix.{complete_is}
-use Rattle.schedules.proofs.laws.schedules.complete_schedules_run_to_the_end.Goals as goal
-
-pub returns : goal.returns
-returns c = complete_is

@@ -1,6 +1,0 @@
-use Rattle.semantics.proofs.WorkFalls.{enabled_below}
-use Rattle.schedules.proofs.SchedulesUnderPrefix.{listed}
-use Rattle.schedules.proofs.laws.schedules.enabled_lists_exactly_the_enabled.Goals as goal
-
-pub returns : goal.returns
-returns c = record { listed = listed; there = enabled_below }

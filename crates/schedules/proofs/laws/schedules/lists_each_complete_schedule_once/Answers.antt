@@ -1,5 +1,0 @@
-use Rattle.schedules.proofs.CompleteSchedulesRise.{all_once}
-use Rattle.schedules.proofs.laws.schedules.lists_each_complete_schedule_once.Goals as goal
-
-pub returns : goal.returns
-returns c = all_once

@@ -1,5 +1,0 @@
-use Rattle.schedules.proofs.CompleteSchedulesRise.{all_prefix_free}
-use Rattle.schedules.proofs.laws.schedules.none_begins_another.Goals as goal
-
-pub returns : goal.returns
-returns c = all_prefix_free

@@ -1,5 +1,0 @@
-use Rattle.schedules.proofs.SchedulesUnderPrefix.{over_nobody}
-use Rattle.schedules.proofs.laws.schedules.terminal_means_none_enabled.Goals as goal
-
-pub returns : goal.returns
-returns c = over_nobody

@@ -1,5 +1,0 @@
-use Rattle.schedules.proofs.HiddenThreads.{equal_decides, hidden_is}
-use Rattle.schedules.proofs.laws.symmetry.equal_threads_are_found.Goals as goal
-
-pub returns : goal.returns
-returns c = record { equal = equal_decides; hidden = hidden_is }

@@ -1,5 +1,0 @@
-use Rattle.schedules.proofs.EqualThreadsOnce.{once_represents_reduced, once_represents_within}
-use Rattle.schedules.proofs.laws.symmetry.equal_threads_once_suffice.Goals as goal
-
-pub returns : goal.returns
-returns c = record { unbounded = once_represents_reduced; within = once_represents_within }

@@ -1,5 +1,0 @@
-use Rattle.summary.proofs.SumsJoin.{join_nothing}
-use Rattle.summary.proofs.laws.join_with_nothing.Goals as goal
-
-pub returns : goal.returns
-returns c = join_nothing

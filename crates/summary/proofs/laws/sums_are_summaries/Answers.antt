@@ -1,5 +1,0 @@
-use Rattle.summary.proofs.SumsJoin.{sum_kept}
-use Rattle.summary.proofs.laws.sums_are_summaries.Goals as goal
-
-pub returns : goal.returns
-returns c = sum_kept

@@ -1,5 +1,0 @@
-use Rattle.summary.proofs.SumsJoin.{sum_of-append}
-use Rattle.summary.proofs.laws.sums_join.Goals as goal
-
-pub returns : goal.returns
-returns c = sum_of-append

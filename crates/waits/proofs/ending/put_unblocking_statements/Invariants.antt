@@ -1,7 +1,0 @@
-use Rattle.std.proofs.Common.{◌≡◌, ◌++◌}
-use Rattle.waits.proofs.EndersListed.{listed}
-use Rattle.waits.proofs.ending.put_unblocking_statements.Given as goal
-
-abbrev pub invariant-loop-at : goal.invariant-loop-at
-invariant-loop-at l =
-    l.list.items ≡ l.fn.list.items ++ listed l.blocked l.other l.code l.fates l.at

@@ -1,7 +1,0 @@
-use Rattle.std.proofs.Common.{◌≡◌}
-use Rattle.waits.specs.Endings.{statements_to}
-use Rattle.waits.specs.inner.Rows.{lists}
-use Rattle.waits.proofs.ending.unblocking_statements.Given as goal
-
-abbrev pub invariant-loop-u : goal.invariant-loop-u
-invariant-loop-u l = l.list.items ≡ statements_to l.program (lists l.fates) l.blocked l.u

@@ -1,5 +1,0 @@
-use Rattle.waits.specs.inner.Taking.{ArePassed}
-use Rattle.waits.proofs.fate.fates_by_marks.Given as goal
-
-abbrev pub invariant-loop-at : goal.invariant-loop-at
-invariant-loop-at l = ArePassed l.settled l.marks l.at l.reach l.fates.items

@@ -1,6 +1,0 @@
-use Rattle.std.proofs.Common.{◌≡◌, true}
-use Rattle.waits.specs.Waiting.{has_none_below}
-use Rattle.waits.proofs.wait.is_first_of.Given as goal
-
-abbrev pub invariant-loop-u : goal.invariant-loop-u
-invariant-loop-u l = has_none_below l.set l.u ≡ true

@@ -1,5 +1,0 @@
-use Rattle.waits.specs.Waiting.{IsLastStep}
-use Rattle.waits.proofs.wait.last_step.Given as goal
-
-abbrev pub invariant-loop-place : goal.invariant-loop-place
-invariant-loop-place l = IsLastStep l.steps l.thread l.place l.last

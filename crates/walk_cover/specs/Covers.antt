@@ -1,0 +1,13 @@
+-- Covers: items under which each schedule of another item lies once.
+use Rattle.std.specs.Prelude.{◌≡◌, ℕ, List, All, Contains}
+use Rattle.walk_items.specs.declared.mode.Mode.{Mode}
+use Rattle.walk_items.specs.Items.{ItemView, everything, covers}
+use Rattle.walk_items.specs.Walks.{IsBelow, HasItsOf}
+
+-- the items cover another one: each lies under it, and has those of its schedules that begin with
+-- its own prefix; and each of its schedules, whatever its preemptions, begins with the prefix of
+-- exactly one of them
+pub record IsCover (mode : Mode) (item : ItemView) (items : List ItemView) : Type 0 where
+  pub below : All (IsBelow item) items
+  pub own : All (HasItsOf mode item) items
+  pub once : (w : List ℕ) → Contains (everything mode item) w → covers w items ≡ 1

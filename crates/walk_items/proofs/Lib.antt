@@ -1,0 +1,12 @@
+pub mod Covers
+pub mod Filters
+pub mod ListParts
+pub mod Permutations
+pub mod WalkedItems
+pub mod Listed
+pub mod Splits
+pub mod Reduced
+pub mod Children
+pub mod ItemsWalked
+pub mod Turns
+pub mod LastItems

@@ -1,9 +1,0 @@
-use Rattle.std.proofs.Common.{◌≡◌, ◌≤◌, take}
-use Rattle.workers.specs.inner.Rounds.{rank}
-use Rattle.workers.proofs.round.Round.rank_of.Given as goal
-
-abbrev pub invariant-loop-other : goal.invariant-loop-other
-invariant-loop-other l = record {
-  rank : l.before ≡ rank (take l.other-index l.self.items.items) l.item;
-  few : l.before ≤ l.other-index;
-}
