@@ -1,12 +1,11 @@
 -- What one account with all seats says of the seats.
 use Rattle.std.proofs.Common.{◌≡◌, ℕ, ◌+◌, ◌≤◌, inl, inr, ⊎_elim, min, List, [], length, sym, ap, subst, arith}
-use Rattle.std.specs.List.{All, sum_by, flat_map}
-use Rattle.std.proofs.lemmas.List.Elements.{All-weaker}
+use Rattle.std.{specs.List.{All, sum_by, flat_map}, proofs.lemmas.List.Elements.All-weaker}
 use mathlib.Core.Logic.{dite}
 use native.Mathlib.Decide.{dec_lt}
-use Rattle.board.specs.declared.account.Account.{Account}
 use Rattle.board.specs.Board.{SeatView}
 use Rattle.board.specs.Claims.{times, IsOneBelow, HasEachBelow, drawn_by, told_by, answered_to, WasTold, IsLeastTold, IsSomeTold}
+use Rattle.board.specs.declared.account.Account.{Account}
 use Rattle.board.specs.inner.Rule.{Mine, Counted, Closed, IsOfAccount}
 use Rattle.board.proofs.Sums.{times-flat_map, Contains-times, All-by_times, one_same}
 

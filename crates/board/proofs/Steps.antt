@@ -3,16 +3,13 @@ use Rattle.std.proofs.Common.{◌≡◌, ℕ, zero, suc, ◌+◌, ◌%◌, ◌^�
 use Rattle.std.specs.List.{All, sum_by}
 use Rattle.std.proofs.lemmas.List.Elements.{All-append, All-push, All-weaker, All-nil}
 use Rattle.std.proofs.lemmas.List.Sums.{sum_by-cons, sum_by_push}
-use mathlib.Core.Logic.{dite}
-use mathlib.Core.Option.{some}
+use mathlib.Core.{Logic.dite, Option.some}
 use native.Mathlib.Decide.{dec_lt, dec_le}
 use lib.ListN.{get_elem?}
 use Rattle.atomic_table.specs.Table.{State, Act, Valid, carried_after, keeps, stepped, Allows, Splits, Joins}
 use Rattle.atomic_table.proofs.Lists.{at_set, at_snoc, set_again}
-use Rattle.board.specs.declared.account.Account.{Account}
-use Rattle.board.specs.declared.board.TheConstants.{WORDS, DRAWN, LEAST}
-use Rattle.board.specs.declared.account.Size.{Size}
-use Rattle.board.specs.Claims.{times, IsOneBelow}
+use Rattle.board.specs.{Claims.{times, IsOneBelow}, declared.account.Account.Account}
+use Rattle.board.specs.declared.{account.Size.Size, board.TheConstants.{WORDS, DRAWN, LEAST}}
 use Rattle.board.specs.inner.Rule.{Mine, account, IsAccount, EachView, drawn_in, marks_in, seats_in, times_in, told_in, IsAmongTold, IsGiven, IsLeast, IsBoard, Claimed, Told, Asked, Counted, Closed, IsOfAccount, without_one, of_one_seat, both, empty}
 use Rattle.board.proofs.Sums.{sum_by-replaced, at-le-sum_by, sum_by-none, hit_yes, times-append, times_push, All-below, one_more, one_same}
 

@@ -1,8 +1,7 @@
 -- What the calls of a board say of its seats.
 use Rattle.std.specs.Prelude.{◌≡◌, ◌⊎◌, ℕ, ◌<◌, ◌≤◌, ◌==◌, true, false, List, [], ◌∷◌, ◌++◌}
 use Rattle.std.specs.List.{All, Contains, count_by, flat_map}
-use Rattle.board.specs.Board.{SeatView}
-use Rattle.board.specs.declared.board.TheConstants.{NONE_TOLD}
+use Rattle.board.specs.{Board.SeatView, declared.board.TheConstants.NONE_TOLD}
 
 -- all seats together
 

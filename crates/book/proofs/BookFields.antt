@@ -1,6 +1,5 @@
 -- The book that a book's own fields make.
-use Rattle.book.specs.declared.books.Book.TheInside.{Inside}
-use Rattle.book.specs.Books.{BookView, book_view}
+use Rattle.book.specs.{Books.{BookView, book_view}, declared.books.Book.TheInside.Inside}
 
 abbrev pub book_of : Inside → BookView
 book_of i =

@@ -3,20 +3,16 @@ use Rattle.std.proofs.Common.{◌≡◌, ℕ, ◌+◌, ◌≤◌, Bool, true, fa
 use Rattle.std.specs.List.{filter, All, Contains}
 use Rattle.std.proofs.lemmas.List.Elements.{All-nil, All-cons, All-head, All-tail}
 use Rattle.guest_code.specs.Program.{Program}
-use Rattle.semantics_schedules.specs.Order.{precedes, lesser, least}
-use Rattle.semantics.specs.View.{is_bad}
-use Rattle.semantics_schedules.specs.Schedules.{begins_with}
-use Rattle.semantics.specs.Waiters.{In}
+use Rattle.semantics_schedules.specs.{Order.{precedes, lesser, least}, Schedules.begins_with}
 use Rattle.semantics_schedules.proofs.LeastSchedule.{least_some}
+use Rattle.semantics.specs.{View.is_bad, Waiters.In}
 use Rattle.semantics.proofs.ListMembers.{in_contains, contains_in, from_filter}
-use Rattle.walk_items.specs.declared.mode.Mode.{Mode}
-use Rattle.walk_summary.specs.Summaries.{SummaryView, IsSummary, IsBoundedBy, nothing, cut, greatest_count, end_kind, sum_of, join, sorted_views}
 use Rattle.walk_items.specs.Items.{ItemView, schedules_of, goes_beyond, item_sum, item_sums, is_under, whole}
-use Rattle.walk_items.specs.Walks.{clear_of}
-use Rattle.walk_items.proofs.ListParts.{all_left}
-use Rattle.walk_summary.proofs.SumsJoin.{sum_kept, nothing_kept, join_kept, join_comm, join_assoc, join_nothing, join_first_bad, join_members}
+use Rattle.walk_items.specs.{Walks.clear_of, declared.mode.Mode.Mode}
+use Rattle.walk_items.proofs.{ListParts.all_left, Splits.{split_sum, split_kept, split_part}}
 use Rattle.walk_items.proofs.WalkedItems.{HasItsOf, rest_has}
-use Rattle.walk_items.proofs.Splits.{split_sum, split_kept, split_part}
+use Rattle.walk_summary.specs.Summaries.{SummaryView, IsSummary, IsBoundedBy, nothing, cut, greatest_count, end_kind, sum_of, join, sorted_views}
+use Rattle.walk_summary.proofs.SumsJoin.{sum_kept, nothing_kept, join_kept, join_comm, join_assoc, join_nothing, join_first_bad, join_members}
 use Rattle.book.specs.Books.{with_deferred, BookView, ComeAfter, IsThinned, Keeps, KeepsWhere, IsClosed, book_schedules}
 use Rattle.book.proofs.Keeping.{closes}
 use Rattle.book.proofs.Later.{begins_later, IsAfter, lesser_first, lesser_after, lesser_some, after_more}

@@ -1,10 +1,8 @@
 -- What the call that drops items does: which it drops, and how many.
 use Rattle.std.proofs.Common.{◌≡◌, ℕ, ◌+◌, Bool, true, false, cond, ◌&&◌, ◌||◌, not, nat_lt, List, [], ◌∷◌, Some, None, refl, ap, ◌∙◌, sym, subst, arith}
-use Rattle.std.specs.List.{filter, list_any, count_by}
-use Rattle.std.proofs.lemmas.Bool.Decides.{nat_tests}
+use Rattle.std.{specs.List.{filter, list_any, count_by}, proofs.lemmas.Bool.Decides.nat_tests}
 use Rattle.walk_items.specs.Items.{ItemView}
-use Rattle.walk_prefixes.specs.PrefixLists.{is_later}
-use Rattle.walk_prefixes.proofs.Later.{count_first}
+use Rattle.walk_prefixes.{specs.PrefixLists.is_later, proofs.Later.count_first}
 use Rattle.book.specs.Books.{BookView, Keeps, cannot_hold, drops, thinned}
 use Rattle.book.proofs.Thinned.{all_kept, thins}
 

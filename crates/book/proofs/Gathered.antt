@@ -1,26 +1,18 @@
 -- Walks that are gathered one after another, and settled at once.
-use Rattle.std.proofs.Common.{◌≡◌, ℕ, ◌<◌, zero, suc, List, [], ◌∷◌, ◌++◌, length, flat_map, Some, slice_get}
-use Rattle.std.proofs.Common.{refl, ap, ◌∙◌, sym, subst, arith, append_assoc, All}
-use Rattle.std.proofs.Common.{true, false, not, ◌&&◌}
+use Rattle.std.proofs.Common.{◌≡◌, ℕ, ◌<◌, zero, suc, List, [], ◌∷◌, ◌++◌, length, flat_map, Some, slice_get, refl, ap, ◌∙◌, sym, subst, arith, append_assoc, All, true, false, not, ◌&&◌}
 use Rattle.std.specs.List.{remove}
-use Rattle.std.proofs.lemmas.List.{append-nil}
-use Rattle.std.proofs.lemmas.List.Edits.{remove-append_left}
+use Rattle.std.proofs.lemmas.{Grind.flat_map-append, List.append-nil, List.Edits.remove-append_left}
 use Rattle.std.proofs.lemmas.List.Elements.{All-nil, All-cons}
-use Rattle.std.proofs.lemmas.Grind.{flat_map-append}
 use Rattle.guest_code.specs.Program.{Program}
 use Rattle.walk_summary.specs.Summaries.{SummaryView, IsSummary, nothing, join}
 use Rattle.walk_summary.proofs.SumsJoin.{join_assoc, join_nothing}
 use Rattle.walk_items.specs.Items.{ItemView, AreOf}
-use Rattle.walk_items.specs.declared.mode.Mode.{Mode}
-use Rattle.walk.specs.declared.found.Found.{Found}
 use Rattle.walk_items.specs.Walks.{WalkView, IsWalked, items_at, listed_if}
-use Rattle.walk.specs.Founds.{HasAdded}
-use Rattle.walk_items.proofs.Listed.{listed_none, listed_both, listed_twice}
-use Rattle.walk_items.proofs.Splits.{split_kept}
-use Rattle.book.specs.Books.{BookView, Keeps, KeepsWhere, with_deferred, IsOpenAt, AreOpenAt, AreWalksAt, HaveFound}
-use Rattle.book.specs.Books.{HaveSettled, settled, taken_in, remove_each, joined}
-use Rattle.book.proofs.PackedItems.{got-left}
-use Rattle.book.proofs.Thinned.{settles_any}
+use Rattle.walk_items.specs.declared.mode.Mode.{Mode}
+use Rattle.walk_items.proofs.{Listed.{listed_none, listed_both, listed_twice}, Splits.split_kept}
+use Rattle.walk.specs.{Founds.HasAdded, declared.found.Found.Found}
+use Rattle.book.specs.Books.{BookView, Keeps, KeepsWhere, with_deferred, IsOpenAt, AreOpenAt, AreWalksAt, HaveFound, HaveSettled, settled, taken_in, remove_each, joined}
+use Rattle.book.proofs.{PackedItems.got-left, Thinned.settles_any}
 
 -- gathered one after another
 

@@ -1,15 +1,14 @@
 -- What the calls of a book keep where no item was dropped.
 use Rattle.std.proofs.Common.{◌≡◌, ℕ, ◌<◌, ◌≤◌, Bool, true, false, List, [], ◌++◌, take, drop, suc, refl, ap, sym, ◌∙◌, subst, arith}
 use Rattle.semantics_schedules.specs.Schedules.{preemptions}
-use Rattle.walk_items.specs.declared.mode.Mode.{Mode}
-use Rattle.walk_items.specs.declared.mode.Mode.TheVariants.{Bounded, Reduced}
-use Rattle.walk_items.specs.declared.limits.TheConstants.{BOUND}
 use Rattle.walk_items.specs.Items.{ItemView, IsItem, item_sum}
 use Rattle.walk_items.specs.Walks.{WalkView, IsWalked, IsSplit, IsWithin, listed_if}
+use Rattle.walk_items.specs.declared.{limits.TheConstants.BOUND, mode.Mode.Mode}
+use Rattle.walk_items.specs.declared.mode.Mode.TheVariants.{Bounded, Reduced}
 use Rattle.walk_items.proofs.Listed.{listed_none}
 use Rattle.walk_items.proofs.Splits.{split_open, split_further, split_next, split_closed}
-use Rattle.book.specs.Books.{BookView, IsBook, Keeps, KeepsWhere, with_deferred}
-use Rattle.book.specs.Books.{IsWalkOf, IsOpenAt, opening_of, settled, raised, bound_of}
+use Rattle.book.specs.Books.{BookView, IsBook, Keeps, KeepsWhere, with_deferred, IsWalkOf, IsOpenAt}
+use Rattle.book.specs.Books.{opening_of, settled, raised, bound_of}
 use Rattle.book.proofs.Lists.{parted}
 
 pub opens : (item : ItemView) (mode : Mode) (quick : Bool) → IsItem item → IsWithin mode item →

@@ -2,10 +2,8 @@
 use Rattle.std.proofs.Common.{◌≡◌, ℕ, ◌≤◌, Bool, true, false, List, [], ◌++◌, sym, subst, arith}
 use Rattle.std.specs.List.{All}
 use Rattle.semantics_schedules.specs.Schedules.{begins_with}
-use Rattle.walk_items.specs.Items.{covers}
-use Rattle.walk_items.specs.Walks.{IsWithin, listed_if}
-use Rattle.walk_items.proofs.ListParts.{all_right}
-use Rattle.walk_items.proofs.Covers.{at_most_one, covers-append}
+use Rattle.walk_items.specs.{Items.covers, Walks.{IsWithin, listed_if}}
+use Rattle.walk_items.proofs.{Covers.{at_most_one, covers-append}, ListParts.all_right}
 use Rattle.walk_items.proofs.WalkedItems.{HasItsOf, rest_has}
 use Rattle.book.specs.Books.{BookView, Keeps, KeepsWhere, IsBook, IsThinned, with_deferred, items_left}
 

@@ -1,8 +1,7 @@
 -- What comes after a schedule.
 use Rattle.std.proofs.Common.{◌≡◌, ℕ, Bool, true, false, cond, ◌&&◌, ◌||◌, nat_eq, nat_lt, List, [], ◌∷◌, Option, Some, None, refl, ◌∙◌, sym, subst, arith}
 use Rattle.std.proofs.lemmas.Bool.Decides.{nat_tests}
-use Rattle.semantics_schedules.specs.Schedules.{begins_with}
-use Rattle.semantics_schedules.specs.Order.{precedes, lesser}
+use Rattle.semantics_schedules.specs.{Order.{precedes, lesser}, Schedules.begins_with}
 use Rattle.semantics_schedules.proofs.LeastSchedule.{before_later, never_before_itself}
 use Rattle.walk_prefixes.specs.PrefixLists.{is_later}
 

@@ -2,10 +2,9 @@
 use Rattle.std.proofs.Common.{◌≡◌, ℕ, false, List, [], ◌++◌, map, replicate, ap, sym, ◌∙◌}
 use Rattle.book.specs.ItemLists.{ListView, all_of}
 use Rattle.book.specs.Lending.{LendingView, lending_view, as_book, all_lent}
-use Rattle.book.specs.declared.books.Book.TheInside as whole
-use Rattle.book.specs.declared.lending.LendingBook.TheInside.{Inside}
-use Rattle.book.proofs.BookFields.{book_of}
+use Rattle.book.{specs.declared.lending.LendingBook.TheInside.Inside, proofs.BookFields.book_of}
 use Rattle.book.proofs.Lent.{none_lent}
+use Rattle.book.specs.declared.books.Book.TheInside as whole
 
 abbrev pub lending_of : Inside → LendingView
 lending_of i =

@@ -2,25 +2,19 @@
 use Rattle.std.proofs.Common.{◌≡◌, ℕ, zero, suc, ◌+◌, ◌-◌, ◌<◌, Bool, false, not, ◌&&◌, List, [], ◌∷◌, ◌++◌, length, get_or, take, drop, set, map, replicate, Some, slice_get, refl, ap, sym, ◌∙◌, subst, arith, append_assoc, length-append, IsPermutation}
 use Rattle.std.specs.List.{All, remove}
 use Rattle.std.proofs.lemmas.List.{take-append-drop, take_more, set_split, map-append}
-use Rattle.std.proofs.lemmas.List.Concat.{flat_map-append}
-use Rattle.std.proofs.lemmas.List.Edits.{remove-append_left}
+use Rattle.std.proofs.lemmas.List.{Concat.flat_map-append, Edits.remove-append_left}
 use Rattle.std.proofs.lemmas.List.Sorted.{IsPermutation-refl, IsPermutation-append_right, IsPermutation-append_comm, IsPermutation-trans}
 use Rattle.guest_code.specs.Program.{Program}
 use Rattle.walk_summary.specs.Summaries.{join}
-use Rattle.walk_items.specs.Items.{ItemView, AreOf, IsItem}
-use Rattle.walk_items.specs.Walks.{IsBelow, items_at, listed_if}
-use Rattle.walk_items.proofs.ListParts.{all_left, all_right}
-use Rattle.walk_items.proofs.Splits.{split_permuted}
+use Rattle.walk_items.specs.{Items.{ItemView, AreOf, IsItem}, Walks.{IsBelow, items_at, listed_if}}
+use Rattle.walk_items.proofs.{ListParts.{all_left, all_right}, Splits.split_permuted}
 use Rattle.walk.specs.declared.found.Found.{Found}
-use Rattle.book.specs.ItemLists.{ListView, all_of}
 use Rattle.book.specs.Books.{BookView, Keeps, KeepsWhere, AreOpenAt, HaveFound, HaveSettled, with_deferred, places_from, remove_each, taken_in}
+use Rattle.book.specs.ItemLists.{ListView, all_of}
 use Rattle.book.specs.Lending.{LendingView, Reorders, IsLoanOf, Has, as_book, all_lent, lent_to}
-use Rattle.book.proofs.Gathered.{settled_together}
-use Rattle.book.proofs.Kept.{kept_whole, kept_within}
-use Rattle.book.proofs.Lists.{parted, at_front}
-use Rattle.book.proofs.OpenItems.{left_below, open_of}
-use Rattle.book.proofs.PackedItems.{below_run, got-left, got-map, got-or}
-use Rattle.book.proofs.Rounds.{open_from}
+use Rattle.book.proofs.{Gathered.settled_together, Kept.{kept_whole, kept_within}}
+use Rattle.book.proofs.{Lists.{parted, at_front}, OpenItems.{left_below, open_of}}
+use Rattle.book.proofs.{PackedItems.{below_run, got-left, got-map, got-or}, Rounds.open_from}
 
 -- elements of a list by their places
 

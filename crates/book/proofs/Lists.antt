@@ -1,11 +1,10 @@
 -- Lists: elements taken out, and the last ones taken one by one.
 use Rattle.std.proofs.Common.{◌≡◌, ℕ, zero, suc, ◌+◌, ◌-◌, ◌<◌, ◌≤◌, List, [], ◌∷◌, ◌++◌, length, get_or, take, drop, refl, ap, sym, ◌∙◌, subst, arith, Option, Some, None, OnSome, IsSome, IfNone, ◌↔◌, ⊎_elim, slice_get, length-drop, length-append, append_assoc}
-use Rattle.std.specs.List.{All, remove, remove_range}
-use Rattle.std.proofs.Math.Seq.{take-suc}
+use Rattle.std.{specs.List.{All, remove, remove_range}, proofs.Math.Seq.take-suc}
+use Rattle.std.proofs.lemmas.Bool.{cases_lt}
 use Rattle.std.proofs.lemmas.List.{get_or-drop, take-append-drop, drop-drop, length-take-le}
 use Rattle.std.proofs.lemmas.List.Edits.{remove-append_left, length-remove}
 use Rattle.std.proofs.lemmas.List.Elements.{All-head, All-tail}
-use Rattle.std.proofs.lemmas.Bool.{cases_lt}
 use Rattle.walk_items.specs.Items.{ItemView}
 use Rattle.book.specs.Books.{remove_each, AreWithin, AreOpenAt}
 

@@ -1,15 +1,12 @@
 -- What the items of a book are: below its own item, so of its program, and their prefixes run.
 use Rattle.std.proofs.Common.{◌≡◌, ℕ, ◌<◌, Bool, true, false, List, ◌++◌, length, get_or, slice_get, Some, sym, ◌∙◌, subst, append_assoc}
-use Rattle.std.specs.List.{All}
-use Rattle.std.proofs.lemmas.List.{append-nil}
+use Rattle.std.{specs.List.All, proofs.lemmas.List.append-nil}
 use Rattle.std.proofs.lemmas.List.Elements.{All-weaker}
 use Rattle.guest_code.specs.Program.{Program}
-use Rattle.walk_items.specs.Items.{ItemView, AreOf, IsItem}
-use Rattle.walk_items.specs.Walks.{IsBelow, items_at, listed_if}
+use Rattle.walk_items.specs.{Items.{ItemView, AreOf, IsItem}, Walks.{IsBelow, items_at, listed_if}}
 use Rattle.walk_items.proofs.ListParts.{all_left, all_right}
-use Rattle.book.specs.ItemLists.{ListView, all_of}
 use Rattle.book.specs.Books.{BookView, Keeps, KeepsWhere, with_deferred}
-use Rattle.book.proofs.PackedItems.{below_run, got-or}
+use Rattle.book.{specs.ItemLists.{ListView, all_of}, proofs.PackedItems.{below_run, got-or}}
 
 -- what is known of lists as items of a program is known of them as items of an equal one
 pub run_of : {p q : Program} (ws : List (List ℕ)) → p ≡ q → All IsItem (items_at q ws) →

@@ -1,17 +1,14 @@
 -- Items of packed prefixes, read from the last on.
 use Rattle.std.proofs.Common.{◌≡◌, ℕ, zero, suc, Bool, true, false, cond, not, Option, Some, None, Result, Ok, Err, IfSome, IfNone, IfOk, slice_get, ◌+◌, ◌-◌, ◌<◌, ◌≤◌, List, [], ◌∷◌, ◌++◌, length, get_or, take, drop, map, min, refl, ap, sym, ◌∙◌, subst, arith, length-append, length-take, ⊎_elim}
-use Rattle.std.specs.List.{All, filter}
-use Rattle.std.proofs.lemmas.List.Elements.{All-nil, All-cons, All-append, All-head, All-tail, All-weaker}
-use Rattle.std.proofs.lemmas.Bool.{cases_lt}
+use Rattle.std.{specs.List.{All, filter}, proofs.lemmas.Bool.cases_lt}
 use Rattle.std.proofs.lemmas.List.{drop-map, take_all, drop_at, drop_all, drop-drop, drop-append-le, length-map, take-append-drop, get_or-take}
+use Rattle.std.proofs.lemmas.List.Elements.{All-nil, All-cons, All-append, All-head, All-tail, All-weaker}
 use Rattle.guest_code.specs.Program.{Program}
 use Rattle.semantics.specs.Mask.{no_threads}
-use Rattle.walk_items.specs.Items.{ItemView, AreOf, IsItem, item_at}
+use Rattle.walk_items.specs.{Items.{ItemView, AreOf, IsItem, item_at}, Walks.{IsBelow, items_at}}
+use Rattle.walk_items.proofs.{LastItems.items_of_both, ListParts.{all_left, all_right}}
 use Rattle.walk_prefixes.specs.PrefixLists.{last_of, is_later}
-use Rattle.walk_items.specs.Walks.{IsBelow, items_at}
-use Rattle.walk_items.proofs.ListParts.{all_left, all_right}
 use Rattle.book.specs.ItemLists.{ListView, all_of}
-use Rattle.walk_items.proofs.LastItems.{items_of_both}
 
 -- items that lie under another run
 pub below_run : (above : ItemView) (items : List ItemView) → All (IsBelow above) items →

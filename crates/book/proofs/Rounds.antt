@@ -1,20 +1,14 @@
 -- The items of a round, walked one after another where they stand.
-use Rattle.std.proofs.Common.{◌≡◌, ℕ, zero, suc, ◌+◌, ◌-◌, ◌<◌, ◌≤◌, min, Bool, true, false, not, ◌&&◌, List, [], ◌∷◌, ◌++◌}
-use Rattle.std.proofs.Common.{length, take, drop, Some, slice_get, ap, ◌∙◌, sym, arith, subst, refl}
-use Rattle.std.proofs.Common.{append_assoc, replicate, All, length-drop}
+use Rattle.std.proofs.Common.{◌≡◌, ℕ, zero, suc, ◌+◌, ◌-◌, ◌<◌, ◌≤◌, min, Bool, true, false, not, ◌&&◌, List, [], ◌∷◌, ◌++◌, length, take, drop, Some, slice_get, ap, ◌∙◌, sym, arith, subst, refl, append_assoc, replicate, All, length-drop}
 use Rattle.std.proofs.lemmas.List.{take-append-drop, length-take-le}
 use Rattle.std.proofs.lemmas.List.Elements.{All-nil, All-cons, All-head, All-tail}
 use Rattle.walk_summary.specs.Summaries.{SummaryView, nothing, join}
-use Rattle.walk_items.specs.Items.{ItemView}
-use Rattle.walk_items.specs.Walks.{WalkView}
-use Rattle.walk.specs.declared.found.Found.{Found}
-use Rattle.walk.specs.Founds.{HasAdded}
-use Rattle.book.specs.Books.{BookView, Keeps, IsOpenAt, AreOpenAt, AreWithin, AreWalksAt, HaveFound, IsWithinQuota}
-use Rattle.book.specs.Books.{HasWalkedRound, places_from, remove_each, taken_in}
+use Rattle.walk_items.specs.{Items.ItemView, Walks.WalkView}
+use Rattle.walk.specs.{Founds.HasAdded, declared.found.Found.Found}
+use Rattle.book.specs.Books.{BookView, Keeps, IsOpenAt, AreOpenAt, AreWithin, AreWalksAt, HaveFound, IsWithinQuota, HasWalkedRound, places_from, remove_each, taken_in}
 use Rattle.book.specs.declared.limits.TheConstants.{ROUND}
 use Rattle.book.proofs.Gathered.{none_found, one_more_found, settled_together}
-use Rattle.book.proofs.Lists.{at_front, open_within}
-use Rattle.book.proofs.OpenItems.{open_of, open_own}
+use Rattle.book.proofs.{Lists.{at_front, open_within}, OpenItems.{open_of, open_own}}
 
 -- walks of n open items from a place on, each up to a quota, found this
 pub record IsFoundFrom (b : BookView) (first n quota : ℕ) (f : Found) : Type 0 where

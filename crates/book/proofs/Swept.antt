@@ -1,14 +1,12 @@
 -- Books of which it is known that they drop none of their open items.
-use Rattle.std.proofs.Common.{◌≡◌, ℕ, zero, suc, Bool, true, false, cond, ◌&&◌, ◌||◌, not, List}
-use Rattle.std.proofs.Common.{[], ◌∷◌, ◌++◌, None, refl, ap, ◌∙◌, sym, subst}
-use Rattle.std.specs.List.{filter, list_any, remove}
+use Rattle.std.proofs.Common.{◌≡◌, ℕ, zero, suc, Bool, true, false, cond, ◌&&◌, ◌||◌, not, List, []}
+use Rattle.std.proofs.Common.{◌∷◌, ◌++◌, None, refl, ap, ◌∙◌, sym, subst}
+use Rattle.std.{specs.List.{filter, list_any, remove}, proofs.lemmas.List.Folds.list_any-append}
 use Rattle.semantics_schedules.specs.Order.{lesser}
-use Rattle.walk_summary.specs.Summaries.{join}
+use Rattle.walk_summary.{specs.Summaries.join, proofs.LesserSchedules.lesser_none}
+use Rattle.walk_summary.proofs.SumsJoin.{join_first_bad}
 use Rattle.walk_items.specs.Items.{ItemView}
 use Rattle.walk.specs.declared.found.Found.{Found}
-use Rattle.std.proofs.lemmas.List.Folds.{list_any-append}
-use Rattle.walk_summary.proofs.LesserSchedules.{lesser_none}
-use Rattle.walk_summary.proofs.SumsJoin.{join_first_bad}
 use Rattle.book.specs.Books.{BookView, IsSwept, taken_in, remove_each, cannot_hold, drops}
 use Rattle.book.proofs.DroppedCounts.{IsDropped, after_drop, thinned_is}
 

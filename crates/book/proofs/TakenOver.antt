@@ -1,17 +1,13 @@
 -- Lists that grow by what a walk left, and shrink again where a later step is refused.
-use Rattle.std.specs.declared.alloc.AllocError.{AllocError}
 use Rattle.std.proofs.Common.{◌≡◌, ℕ, ◌≤◌, List, [], ◌∷◌, ◌++◌, length, take, refl, ap, sym, ◌∙◌, arith, append_assoc, Result, Ok, Err, OnOk, is_ok, if◌then◌else◌}
-use Rattle.std.specs.List.{remove}
+use Rattle.std.specs.{List.remove, declared.alloc.AllocError.AllocError}
 use Rattle.std.proofs.lemmas.List.{take_at}
 use Rattle.guest_code.specs.Program.{Program}
 use Rattle.walk_summary.specs.Summaries.{SummaryView}
-use Rattle.walk_items.specs.Items.{ItemView}
-use Rattle.walk.specs.declared.found.Found.{Found}
-use Rattle.walk_items.specs.Walks.{items_at, listed_if}
-use Rattle.walk.specs.Founds.{found_walk}
-use Rattle.book.specs.ItemLists.{ListView, all_of}
+use Rattle.walk_items.specs.{Items.ItemView, Walks.{items_at, listed_if}}
+use Rattle.walk.specs.{Founds.found_walk, declared.found.Found.Found}
 use Rattle.book.specs.Books.{BookView, settled, taken_in, remove_each, AreWithin}
-use Rattle.book.proofs.Lists.{each_left}
+use Rattle.book.{specs.ItemLists.{ListView, all_of}, proofs.Lists.each_left}
 
 pub unpacked_only : (p : Program) (l : ListView) → l.packed ≡ [] → all_of p l ≡ l.unpacked
 unpacked_only p l e = ap (λ ws. items_at p ws ++ l.unpacked) e

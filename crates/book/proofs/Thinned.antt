@@ -4,17 +4,12 @@ use Rattle.std.specs.List.{filter, list_any, All}
 use Rattle.std.proofs.lemmas.List.Elements.{All-nil, All-cons, All-append, All-weaker}
 use Rattle.std.proofs.lemmas.List.Sorted.{IsPermutation-append_right, IsPermutation-filter_both}
 use Rattle.semantics_schedules.specs.Order.{precedes, lesser}
-use Rattle.walk_items.specs.declared.mode.Mode.{Mode}
-use Rattle.walk_summary.specs.Summaries.{join}
-use Rattle.walk_items.specs.Items.{ItemView}
-use Rattle.walk_items.specs.Walks.{WalkView, IsWalked, IsSplit, listed_if}
-use Rattle.walk_items.proofs.Listed.{listed_both}
+use Rattle.walk_items.specs.{Items.ItemView, Walks.{WalkView, IsWalked, IsSplit, listed_if}}
+use Rattle.walk_items.{specs.declared.mode.Mode.Mode, proofs.Listed.listed_both}
 use Rattle.walk_items.proofs.Splits.{split_further, split_permuted}
-use Rattle.walk_summary.proofs.SumsJoin.{join_first_bad}
+use Rattle.walk_summary.{specs.Summaries.join, proofs.SumsJoin.join_first_bad}
 use Rattle.book.specs.Books.{BookView, ComeAfter, IsThinned, Keeps, KeepsWhere, with_deferred, IsWalkOf, IsOpenAt, settled, cannot_hold, drops, thinned}
-use Rattle.book.proofs.Keeping.{settles}
-use Rattle.book.proofs.Later.{later_precedes, lesser_some}
-use Rattle.book.proofs.Lists.{parted}
+use Rattle.book.proofs.{Keeping.settles, Later.{later_precedes, lesser_some}, Lists.parted}
 
 -- these are the open items of the book, besides its other parts
 abbrev pub IsBookWith : BookView → List ItemView → Type 0

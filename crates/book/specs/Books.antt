@@ -2,22 +2,19 @@
 use Rattle.std.specs.Prelude.{◌≡◌, ℕ, zero, suc, ◌<◌, ◌≤◌, ◌+◌, ◌-◌, min, Bool, true, false, not, ◌||◌, ◌&&◌, List, [], ◌∷◌, ◌++◌, length, filter, Option, Some, None, slice_get, All, flat_map, ◌⊎◌}
 use Rattle.std.specs.List.{remove, list_any}
 use Rattle.guest_code.specs.Program.{Program}
-use Rattle.semantics_schedules.specs.Order.{precedes}
-use Rattle.semantics_schedules.specs.Schedules.{begins_with}
-use Rattle.walk_items.specs.declared.limits.TheConstants.{BOUND}
-use Rattle.walk_items.specs.declared.mode.Mode.{Mode}
+use Rattle.semantics_schedules.specs.{Order.precedes, Schedules.begins_with}
+use Rattle.walk_items.specs.Items.{ItemView, root_of, schedules_of}
+use Rattle.walk_items.specs.Walks.{WalkView, IsSplit, IsWalked, IsWithin, items_at, listed_if}
+use Rattle.walk_items.specs.declared.{limits.TheConstants.BOUND, mode.Mode.Mode}
 use Rattle.walk_items.specs.declared.mode.Mode.TheVariants.{Bounded, Reduced}
 use Rattle.walk_summary.specs.Summaries.{SummaryView, nothing, join, with_beyond}
-use Rattle.walk_items.specs.Items.{ItemView, root_of, schedules_of}
 use Rattle.walk.specs.declared.found.Found.{Found}
-use Rattle.walk_items.specs.Walks.{WalkView, IsSplit, IsWalked, IsWithin, items_at, listed_if}
-use Rattle.book.specs.declared.limits.TheConstants.{ROUND}
-use Rattle.walk_prefixes.specs.PrefixLists.{is_later}
-use Rattle.book.specs.ItemLists.{ListView, all_of}
+use Rattle.book.specs.{ItemLists.{ListView, all_of}, declared.errors.RaiseError.RaiseError}
+use Rattle.book.specs.declared.errors.RaiseError.TheVariants.{StillOpen, Dropped, LastBound}
 use Rattle.book.specs.declared.errors.SettleError.{SettleError}
 use Rattle.book.specs.declared.errors.SettleError.TheVariants.{NotOpen, Stranger, OutOfMemory}
-use Rattle.book.specs.declared.errors.RaiseError.{RaiseError}
-use Rattle.book.specs.declared.errors.RaiseError.TheVariants.{StillOpen, Dropped, LastBound}
+use Rattle.book.specs.declared.limits.TheConstants.{ROUND}
+use Rattle.walk_prefixes.specs.PrefixLists.{is_later}
 
 -- what contracts see of a book: the item whose schedules are searched, the summary of what is
 -- finished, the items that are still open, those that wait for the next bound, whether these are

@@ -1,8 +1,7 @@
 -- What the user is told where a book refuses.
 use Rattle.std.specs.Prelude.{ℕ, List, codes}
-use Rattle.book.specs.declared.errors.SettleError.{SettleError}
+use Rattle.book.specs.declared.errors.{RaiseError.RaiseError, SettleError.SettleError}
 use Rattle.book.specs.declared.errors.SettleError.TheVariants as settling
-use Rattle.book.specs.declared.errors.RaiseError.{RaiseError}
 use Rattle.book.specs.declared.errors.RaiseError.TheVariants as raising
 
 -- the number and the name of the refusal

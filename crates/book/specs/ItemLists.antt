@@ -1,11 +1,9 @@
 -- How a book holds its items.
 use Rattle.std.specs.Prelude.{ℕ, List, ◌++◌}
-use Rattle.std.specs.declared.alloc.Global.{Global}
+use Rattle.std.specs.{VecDeque.deque_capacity, declared.alloc.Global.Global}
 use Rattle.std.specs.declared.collections.VecDeque.{VecDeque}
-use Rattle.std.specs.VecDeque.{deque_capacity}
 use Rattle.guest_code.specs.Program.{Program}
-use Rattle.walk_items.specs.Items.{ItemView}
-use Rattle.walk_items.specs.Walks.{items_at}
+use Rattle.walk_items.specs.{Items.ItemView, Walks.items_at}
 
 -- what contracts see of a list of items: prefixes after which no thread sleeps, packed, and after
 -- them items as they are, and for how many of these it has memory

@@ -3,11 +3,9 @@ use Rattle.std.specs.Prelude.{◌≡◌, ℕ, ◌-◌, Bool, true, false, ◌⊎
 use Rattle.std.specs.List.Sorted.{IsPermutation}
 use Rattle.guest_code.specs.Program.{Program}
 use Rattle.walk_summary.specs.Summaries.{SummaryView}
+use Rattle.walk_items.specs.{Items.{ItemView, AreOf, IsItem}, Walks.items_at}
 use Rattle.walk_items.specs.declared.mode.Mode.{Mode}
-use Rattle.walk_items.specs.Items.{ItemView, AreOf, IsItem}
-use Rattle.walk_items.specs.Walks.{items_at}
-use Rattle.book.specs.ItemLists.{ListView, all_of}
-use Rattle.book.specs.Books.{BookView}
+use Rattle.book.specs.{Books.BookView, ItemLists.{ListView, all_of}}
 
 -- what contracts see of a book that lends: of its open items those that nobody has and those that
 -- each worker has; nothing was dropped from it

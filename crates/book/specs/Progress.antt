@@ -1,10 +1,8 @@
 -- How far a search is, of the book that it has after a round.
 use Rattle.std.specs.Prelude.{◌≡◌, ℕ, ◌+◌, Option, Some, None, length}
-use Rattle.walk_items.specs.declared.mode.Mode.{Mode}
-use Rattle.walk_items.specs.declared.mode.Mode.TheVariants.{Bounded, Reduced}
+use Rattle.walk_items.specs.declared.mode.Mode.{Mode, TheVariants.{Bounded, Reduced}}
 use Rattle.walk_summary.specs.Summaries.{cut}
-use Rattle.book.specs.Books.{BookView}
-use Rattle.book.specs.declared.progress.Progress.{Progress}
+use Rattle.book.specs.{Books.BookView, declared.progress.Progress.Progress}
 
 -- the bound of a mode, if it has one
 abbrev pub mode_bound : Mode → Option ℕ

@@ -2,13 +2,12 @@
 
 ghost use Rattle.std.specs.Prelude.{true, false, None, count_by, ◌≡◌, ◌<◌, ◌≤◌, ◌+◌, ◌-◌, ◌↔◌, [], length, drop, is_ok, if◌then◌else◌, IfOk, OnOk, IfErr, OnErr, Ok, IfSome, IfNone, IsTrue, slice_get, Some, All};
 ghost use Rattle.std.specs.Arc.{arc_value};
-ghost use Rattle.walk_items.specs.declared.limits.TheConstants.{BOUND};
-ghost use Rattle.walk_items.specs.declared.mode.Mode.TheVariants.{Bounded};
 ghost use Rattle.walk_items.specs.Items.{whole, root_of, item_sum, AreOf};
-ghost use Rattle.walk_items.specs.Walks.{IsWithin, listed_if};
+ghost use Rattle.walk_items.specs.{Walks.{IsWithin, listed_if}, declared.limits.TheConstants.BOUND};
+ghost use Rattle.walk_items.specs.declared.mode.Mode.TheVariants.{Bounded};
+ghost use Rattle.book.specs.Books.{Keeps, drops, thinned, opening, opening_of, HasWalkedRound, HaveFound, HaveSettled, AreNotTaken, taken_in, remove_each, AreWithin, Settles, IsRefused, Raises, IsNotRaised, IsClosed, bound_of, made_last};
 ghost use Rattle.book.specs.declared.limits.TheConstants.{ROUND};
 ghost use Rattle.walk_summary.specs.Summaries.{IsBoundedBy};
-ghost use Rattle.book.specs.Books.{Keeps, drops, thinned, opening, opening_of, HasWalkedRound, HaveFound, HaveSettled, AreNotTaken, taken_in, remove_each, AreWithin, Settles, IsRefused, Raises, IsNotRaised, IsClosed, bound_of, made_last};
 
 use crate::errors::{RaiseError, SettleError};
 use crate::item_list::ItemList;

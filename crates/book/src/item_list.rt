@@ -1,14 +1,12 @@
 // The lists of items of a book, partly packed as prefixes.
 
 ghost use Rattle.std.specs.Prelude.{◌≡◌, ℕ, ◌+◌, ◌-◌, ◌<◌, ◌≤◌, ◌↔◌, [], ◌∷◌, ◌++◌, false, not, length, take, drop, filter, count_by, is_ok, if◌then◌else◌, IfOk, OnOk, IfSome, IfNone, IsTrue, Some, slice_get, slice_index_or, All};
-ghost use Rattle.std.specs.Arc.{arc_value};
+ghost use Rattle.std.specs.{Arc.arc_value, List.remove_range};
 ghost use Rattle.guest_code.specs.Program.{Program};
-ghost use Rattle.walk_items.specs.Items.{ItemView, AreOf, IsItem};
-ghost use Rattle.walk_items.specs.Walks.{items_at};
+ghost use Rattle.walk_items.specs.{Items.{ItemView, AreOf, IsItem}, Walks.items_at};
 ghost use Rattle.walk_prefixes.specs.PrefixLists.{is_later};
-ghost use Rattle.book.specs.ItemLists.{all_of};
-ghost use Rattle.std.specs.List.{remove_range};
 ghost use Rattle.book.specs.Books.{remove_each, AreWithin, AreOpenAt, StandInOrder};
+ghost use Rattle.book.specs.ItemLists.{all_of};
 
 use crate::limits::ROUND;
 use guest_code::program::Program;

@@ -2,8 +2,7 @@
 
 ghost use Rattle.std.specs.Prelude.{◌≡◌, ◌≤◌, [], true, false, Ok, IfOk, length, set};
 ghost use Rattle.walk_summary.specs.Summaries.{cut};
-ghost use Rattle.book.specs.ItemLists.{all_of};
-ghost use Rattle.book.specs.Books.{Keeps, HaveFound, HaveSettled, places_from};
+ghost use Rattle.book.specs.{Books.{Keeps, HaveFound, HaveSettled, places_from}, ItemLists.all_of};
 ghost use Rattle.book.specs.Lending.{as_book, lending, Reorders, IsLoanOf, Has, Lends, IsNotSettled};
 ghost use Rattle.book.specs.Progress.{IsProgressOf};
 

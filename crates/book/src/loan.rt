@@ -3,8 +3,7 @@
 ghost use Rattle.std.specs.Prelude.{◌≡◌, [], OnOk};
 ghost use Rattle.std.specs.Arc.{arc_value};
 ghost use Rattle.walk_items.specs.Items.{AreOf};
-ghost use Rattle.book.specs.ItemLists.{all_of};
-ghost use Rattle.book.specs.Lending.{IsLoanOf};
+ghost use Rattle.book.specs.{ItemLists.all_of, Lending.IsLoanOf};
 
 use crate::item_list::ItemList;
 use guest_code::program::Program;

@@ -3,16 +3,15 @@
 #![tactic(auto)]
 
 ghost use Rattle.std.specs.Prelude.{◌≡◌, ◌≤◌, ◌<◌, ℕ, [], false, true, List, Some, Contains, All, length, slice_index_or};
-ghost use Rattle.semantics.specs.Machine.{start};
-ghost use Rattle.semantics.specs.View.{is_bad};
+ghost use Rattle.semantics.specs.{Machine.start, View.is_bad};
 ghost use Rattle.semantics_schedules.specs.Schedules.{complete_schedules, begins_with, preemptions};
-ghost use Rattle.walk_items.specs.declared.mode.Mode.TheVariants.{Bounded, Reduced};
-ghost use Rattle.walk_summary.specs.Summaries.{sum_of, join, with_beyond, end_kind, IsBoundedBy};
 ghost use Rattle.walk_items.specs.FullSums.{full_sum, full_sums};
 ghost use Rattle.walk_items.specs.Items.{ItemView, item_sum, item_sums, is_under};
 ghost use Rattle.walk_items.specs.Walks.{IsBelow, IsDeferred, clear_of};
-ghost use Rattle.book.specs.declared.limits.TheConstants.{ROUND};
+ghost use Rattle.walk_items.specs.declared.mode.Mode.TheVariants.{Bounded, Reduced};
+ghost use Rattle.walk_summary.specs.Summaries.{sum_of, join, with_beyond, end_kind, IsBoundedBy};
 ghost use Rattle.book.specs.Books.{BookView, Keeps, KeepsWhere, IsBook, IsThinned, book_schedules, items_left, HasItsSchedules};
+ghost use Rattle.book.specs.declared.limits.TheConstants.{ROUND};
 
 use book::limits::ROUND;
 

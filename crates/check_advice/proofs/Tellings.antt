@@ -1,19 +1,14 @@
 -- What is told of a text that spells a tree, and of one that spells none.
 use Rattle.std.proofs.Common.{◌≡◌, ◌≢◌, ℕ, List, Vec, Global, Option, Some, None, refl}
-use Rattle.guest_syntax.specs.declared.error.SyntaxError.{SyntaxError}
-use Rattle.guest_syntax.specs.Place.{start}
-use Rattle.guest_syntax.specs.ErrorTexts.{syntax_error_text}
-use Rattle.guest_syntax.specs.Answers.{RefusalIn}
-use Rattle.guest_syntax.specs.Grammar.{Spells}
-use Rattle.guest_syntax.specs.Tree.{Tree}
+use Rattle.guest_syntax.specs.{Answers.RefusalIn, ErrorTexts.syntax_error_text, Grammar.Spells}
+use Rattle.guest_syntax.specs.{Place.start, Tree.Tree, declared.error.SyntaxError.SyntaxError}
+use Rattle.guest_code.specs.{ErrorTexts.check_error_text, Fault.{fault, Refuses}}
 use Rattle.guest_code.specs.declared.error.CheckError.{CheckError}
 use Rattle.guest_code.specs.declared.error.CheckError.TheVariants.{Duplicate, Unknown, WrongKind, NoThreads, TooMany, CodeTooLong, LeaveOutside, OutOfMemory}
-use Rattle.guest_code.specs.ErrorTexts.{check_error_text}
-use Rattle.guest_code.specs.Fault.{fault, Refuses}
 use Rattle.check_messages.specs.declared.message.Diagnostic.{Diagnostic}
+use Rattle.check_advice.specs.Told.{Tells, is_sound, spells_none, has_fault}
 use Rattle.check_advice.specs.declared.Checked.TheVariants.{Sound, Refused}
 use Rattle.check_hints.specs.Refusals.{syntax_place, check_place, IsDiagnosticOf}
-use Rattle.check_advice.specs.Told.{Tells, is_sound, spells_none, has_fault}
 
 -- a refusal that isn't out of memory is the fault
 refused_by : (e : CheckError) (f : Option CheckError) → e ≢ OutOfMemory → Refuses e f → f ≡ Some e

@@ -1,22 +1,15 @@
 -- What a person is told of a text.
 use Rattle.std.specs.Prelude.{◌≡◌, List, ℕ, Bool, true, false, Some, None}
-use Rattle.std.specs.List.{list_any}
 use Rattle.std.proofs.Common.{Vec, Global}
-use Rattle.guest_syntax.specs.declared.error.SyntaxError.{SyntaxError}
-use Rattle.guest_syntax.specs.Place.{start}
-use Rattle.guest_syntax.specs.ErrorTexts.{syntax_error_text}
-use Rattle.guest_syntax.specs.Answers.{RefusalIn}
-use Rattle.guest_syntax.specs.Grammar.{Spells}
-use Rattle.guest_syntax.specs.Tree.{Tree}
+use Rattle.std.specs.List.{list_any}
+use Rattle.guest_syntax.specs.{Answers.RefusalIn, ErrorTexts.syntax_error_text, Grammar.Spells}
+use Rattle.guest_syntax.specs.{Place.start, Tree.Tree, declared.error.SyntaxError.SyntaxError}
+use Rattle.guest_code.specs.{ErrorTexts.check_error_text, Fault.fault}
 use Rattle.guest_code.specs.declared.error.CheckError.{CheckError}
-use Rattle.guest_code.specs.ErrorTexts.{check_error_text}
-use Rattle.guest_code.specs.Fault.{fault}
-use Rattle.check_messages.specs.declared.message.Diagnostic.{Diagnostic}
-use Rattle.check_messages.specs.declared.message.Severity.{Severity}
+use Rattle.check_messages.specs.declared.message.{Diagnostic.Diagnostic, Severity.Severity}
 use Rattle.check_messages.specs.declared.message.Severity.TheVariants as severities
 use Rattle.check_hints.specs.Refusals.{syntax_place, check_place, IsDiagnosticOf}
-use Rattle.check_advice.specs.declared.Checked.{Checked}
-use Rattle.check_advice.specs.declared.Checked.TheVariants.{Sound, Refused}
+use Rattle.check_advice.specs.declared.Checked.{Checked, TheVariants.{Sound, Refused}}
 
 -- What is told of a text: that it is refused, and why, exactly where it spells no tree without a
 -- fault; else warnings and remarks.

@@ -15,13 +15,10 @@
 
 ghost use Rattle.std.specs.Prelude.{◌≡◌, ◌≢◌, IfOk};
 ghost use Rattle.std.specs.List.{list_any};
-ghost use Rattle.guest_syntax.specs.Answers.{RefusalIn};
-ghost use Rattle.guest_syntax.specs.Grammar.{Spells};
-ghost use Rattle.guest_syntax.specs.Place.{start};
+ghost use Rattle.guest_syntax.specs.{Answers.RefusalIn, Grammar.Spells, Place.start};
 ghost use Rattle.guest_syntax.specs.Tree.{Tree, tree_view};
 ghost use Rattle.guest_syntax.specs.declared.error.SyntaxError.TheVariants as syntax;
-ghost use Rattle.guest_code.specs.Code.{code};
-ghost use Rattle.guest_code.specs.Fault.{fault, Refuses};
+ghost use Rattle.guest_code.specs.{Code.code, Fault.{fault, Refuses}};
 ghost use Rattle.check_advice.specs.Told.{Tells, is_warning, is_warned};
 
 mod agreeing;

@@ -1,10 +1,8 @@
 -- What a person is told of a refusal.
 use Rattle.std.specs.Prelude.{◌≡◌, ℕ, List, Option, Some, None, option_map, string_bytes, slice_get}
+use Rattle.guest_syntax.specs.{Place.start, Tree.Tree, declared.error.SyntaxError.SyntaxError}
 use Rattle.guest_syntax.specs.declared.place.Pos.{Pos}
-use Rattle.guest_syntax.specs.declared.error.SyntaxError.{SyntaxError}
 use Rattle.guest_syntax.specs.declared.error.SyntaxError.TheVariants as syntax
-use Rattle.guest_syntax.specs.Place.{start}
-use Rattle.guest_syntax.specs.Tree.{Tree}
 use Rattle.guest_code.specs.declared.error.CheckError.{CheckError}
 use Rattle.guest_code.specs.declared.error.CheckError.TheVariants as checks
 use Rattle.check_messages.specs.declared.message.Diagnostic.{Diagnostic}

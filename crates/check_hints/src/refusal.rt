@@ -1,8 +1,7 @@
 //! Diagnostics on why a text is refused.
 
 ghost use Rattle.std.specs.Prelude.{◌≡◌, Some, IfOk};
-ghost use Rattle.guest_syntax.specs.ErrorTexts.{syntax_error_text};
-ghost use Rattle.guest_syntax.specs.Tree.{tree_view};
+ghost use Rattle.guest_syntax.specs.{ErrorTexts.syntax_error_text, Tree.tree_view};
 ghost use Rattle.guest_code.specs.ErrorTexts.{check_error_text};
 ghost use Rattle.check_hints.specs.Refusals.{syntax_place, check_place, IsDiagnosticOf};
 

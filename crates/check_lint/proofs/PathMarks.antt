@@ -1,12 +1,10 @@
 -- Marks of instructions while they are passed one after the other.
 use Rattle.std.proofs.Common.{◌≡◌, ℕ, ◌+◌, ◌<◌, ◌≤◌, inl, inr, Bool, List, length, get_or, Some, arith, sym, subst, refl, below_more}
-use Rattle.guest_code.specs.declared.program.Instruction.{Instruction}
-use Rattle.guest_code.specs.declared.program.Instruction.TheVariants.{Skip}
 use Rattle.std.proofs.lemmas.List.{get_or_default}
 use Rattle.guest_code.specs.Program.{skip_of, JumpsWithin}
-use Rattle.check_lint.specs.declared.paths.Mark.{Mark}
-use Rattle.check_lint.specs.declared.paths.Watch.{Watch}
+use Rattle.guest_code.specs.declared.program.Instruction.{Instruction, TheVariants.Skip}
 use Rattle.check_lint.specs.Paths.{Goes, Next, Comes, here, on, after, Marked, Marks}
+use Rattle.check_lint.specs.declared.paths.{Mark.Mark, Watch.Watch}
 use Rattle.check_lint.specs.inner.Marking.{AddsOne, AddsAll}
 
 -- the next ones come later

@@ -2,9 +2,8 @@
 use Rattle.std.proofs.Common.{◌≡◌, ℕ, suc, ◌+◌, ◌<◌, List, [], ◌∷◌, ◌++◌, length, take, get_or, subst, sym, add-one}
 use Rattle.std.proofs.lemmas.List.{take_more}
 use Rattle.guest_code.specs.Program.{Program}
-use Rattle.check_lint.specs.declared.warning.WarningKind.{WarningKind}
-use Rattle.check_lint.specs.declared.warning.Warning.{Warning}
 use Rattle.check_lint.specs.Warnings.{IsSo, Chosen, none, taken, passed, Listed, nothing, more, subject_of, count_of}
+use Rattle.check_lint.specs.declared.warning.{Warning.Warning, WarningKind.WarningKind}
 
 pub chosen_none : (p : Program) (kind : WarningKind) (ws : List Warning) → ws ≡ [] → Chosen p kind 0 ws
 chosen_none p kind ws e = let P : List Warning → Type 0 = λ vs. Chosen p kind 0 vs in

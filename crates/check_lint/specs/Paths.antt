@@ -1,11 +1,9 @@
 -- Paths through the code of a thread: from an instruction to one that may be next, what is so after
 -- them, and marks of instructions, which say it.
 use Rattle.std.specs.Prelude.{◌≡◌, ℕ, ◌+◌, ◌<◌, ◌⊎◌, Bool, true, false, ◌&&◌, ◌||◌, nat_eq, if◌then◌else◌, IsTrue, List, length, slice_index_or, Option, Some, None}
-use Rattle.guest_code.specs.declared.program.Instruction.{Instruction}
+use Rattle.guest_code.specs.{Program.skip_of, declared.program.Instruction.Instruction}
 use Rattle.guest_code.specs.declared.program.Instruction.TheVariants.{Store, Add, Cas, Lock, Unlock, Wait, Signal, Broadcast, Acquire, Release, SkipIfZero, Skip}
-use Rattle.guest_code.specs.Program.{skip_of}
-use Rattle.check_lint.specs.Uses.{expression_reads, sets}
-use Rattle.check_lint.specs.declared.paths.Mark.{Mark}
+use Rattle.check_lint.specs.{Uses.{expression_reads, sets}, declared.paths.Mark.Mark}
 use Rattle.check_lint.specs.declared.paths.Watch.{Watch}
 use Rattle.check_lint.specs.declared.paths.Watch.TheVariants as watches
 

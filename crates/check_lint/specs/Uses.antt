@@ -1,12 +1,10 @@
 -- What an instruction does with locals and with objects.
 use Rattle.std.specs.Prelude.{ℕ, Bool, false, ◌||◌, ◌&&◌, not, nat_eq, Option, Some, None}
 use Rattle.std.specs.Option.{option_or}
-use Rattle.guest_code.specs.declared.program.Value.{Value}
-use Rattle.guest_code.specs.declared.program.Value.TheVariants.{Local, Literal}
-use Rattle.guest_code.specs.declared.program.Expression.{Expression}
-use Rattle.guest_code.specs.declared.program.Expression.TheVariants.{Single, Both}
+use Rattle.guest_code.specs.declared.program.Expression.{Expression, TheVariants.{Single, Both}}
 use Rattle.guest_code.specs.declared.program.Instruction.{Instruction}
 use Rattle.guest_code.specs.declared.program.Instruction.TheVariants.{Load, Store, Add, Cas, Lock, Unlock, Wait, Signal, Broadcast, Acquire, Release, Set, Assert, SkipIfZero}
+use Rattle.guest_code.specs.declared.program.Value.{Value, TheVariants.{Local, Literal}}
 use Rattle.check_lint.specs.declared.uses.Use.{Use}
 use Rattle.check_lint.specs.declared.uses.Use.TheVariants as uses
 

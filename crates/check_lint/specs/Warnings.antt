@@ -2,20 +2,16 @@
 use Rattle.std.specs.Prelude.{◌≡◌, ℕ, zero, suc, ◌<◌, Bool, true, false, IsTrue, List, [], ◌∷◌, ◌++◌, length, slice_index_or}
 use Rattle.std.specs.List.{list_any}
 use Rattle.guest_code.specs.Program.{Program, code_of, thread_at, semaphore_at}
-use Rattle.guest_code.specs.declared.kinds.NameKind.TheVariants as names
-use Rattle.guest_code.specs.declared.limits.TheConstants.{LOCALS}
-use Rattle.guest_code.specs.declared.program.Instruction.{Instruction}
+use Rattle.guest_code.specs.declared.{limits.TheConstants.LOCALS, program.Instruction.Instruction}
 use Rattle.guest_code.specs.declared.program.Instruction.TheVariants.{Lock, Unlock, Wait, Skip}
-use Rattle.check_lint.specs.declared.uses.Use.{Use}
-use Rattle.check_lint.specs.declared.uses.Use.TheVariants as uses
+use Rattle.guest_code.specs.declared.kinds.NameKind.TheVariants as names
+use Rattle.check_lint.specs.{Paths.{Comes, IsReached, ActsAt}, Uses.does, declared.uses.Use.Use}
 use Rattle.check_lint.specs.declared.warning.Subject.{Subject}
 use Rattle.check_lint.specs.declared.warning.Subject.TheVariants.{Local, Instruction as Statement, Object}
-use Rattle.check_lint.specs.declared.warning.WarningKind.{WarningKind}
+use Rattle.check_lint.specs.declared.warning.{Warning.Warning, WarningKind.WarningKind}
+use Rattle.check_lint.specs.declared.uses.Use.TheVariants as uses
 use Rattle.check_lint.specs.declared.warning.WarningKind.TheVariants as kinds
-use Rattle.check_lint.specs.declared.warning.Warning.{Warning}
 use Rattle.check_lint.specs.declared.paths.Watch.TheVariants as watches
-use Rattle.check_lint.specs.Uses.{does}
-use Rattle.check_lint.specs.Paths.{Comes, IsReached, ActsAt}
 
 -- some instruction of thread t makes this use of the local or object of this number
 abbrev pub UsesIn : Program → ℕ → Use → ℕ → Type 0

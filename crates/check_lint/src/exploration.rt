@@ -2,8 +2,7 @@
 //! taking them back, which notes what they show of a program.
 
 ghost use Rattle.std.specs.Prelude.{◌<◌, ◌≡◌, length, IfOk, IfSome, OnOk, IsTrue};
-ghost use Rattle.semantics.specs.Machine.{is_enabled};
-ghost use Rattle.semantics.specs.Reachable.{IsOf, IsValidAction};
+ghost use Rattle.semantics.specs.{Machine.is_enabled, Reachable.{IsOf, IsValidAction}};
 ghost use Rattle.guest_code.specs.Program.{Program, IsValidCode};
 ghost use Rattle.check_lint.specs.inner.Frames.{TakesBack, IsExploration};
 

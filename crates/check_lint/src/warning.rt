@@ -3,8 +3,7 @@
 ghost use Rattle.std.specs.Prelude.{◌≡◌, ◌<◌, ◌↔◌, IsTrue, IfOk, length, ◌^◌, ◌≤◌};
 ghost use Rattle.guest_code.specs.Program.{code_of, JumpsWithin};
 ghost use Rattle.check_lint.specs.Paths.{IsReached};
-ghost use Rattle.check_lint.specs.Warnings.{UsesIn, UsesAnywhere, IsSo, MayKeep, MayLack, LocksAgain};
-ghost use Rattle.check_lint.specs.Warnings.{IsUnseen, WaitNotLookedAtAgain, WaitsElsewhere, subject_of, count_of};
+ghost use Rattle.check_lint.specs.Warnings.{UsesIn, UsesAnywhere, IsSo, MayKeep, MayLack, LocksAgain, IsUnseen, WaitNotLookedAtAgain, WaitsElsewhere, subject_of, count_of};
 
 use crate::paths::{Watch, path_marks, reaches_effect_or_end};
 use crate::uses::Use;

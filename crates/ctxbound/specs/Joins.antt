@@ -1,16 +1,12 @@
 -- What is told of parts that are joined.
 use Rattle.std.specs.Prelude.{◌≡◌, ℕ, List, ◌++◌, codes, false, if◌then◌else◌}
 use Rattle.guest_code.specs.Program.{Program}
-use Rattle.runner_report.specs.declared.options.Search.{Search}
-use Rattle.runner_report.specs.declared.report.Report.{Report}
-use Rattle.runner_report.specs.Promises.{IsReport}
-use Rattle.runner_report.specs.ReportText.{report_text}
+use Rattle.runner_report.specs.{Promises.IsReport, ReportText.report_text}
+use Rattle.runner_report.specs.declared.{options.Search.Search, report.Report.Report}
 use Rattle.runner_parts.specs.declared.part.Part.{Part}
+use Rattle.runner_joining.specs.{ErrorTexts.needs_work, Parts.{AreHonest, AreTested, options_of}}
 use Rattle.runner_joining.specs.declared.error.JoinError.{JoinError}
-use Rattle.runner_joining.specs.ErrorTexts.{needs_work}
-use Rattle.runner_joining.specs.Parts.{AreHonest, AreTested, options_of}
-use Rattle.ctxbound_answers.specs.declared.answer.Printed.{Printed}
-use Rattle.ctxbound_answers.specs.Status.{verdict_status}
+use Rattle.ctxbound_answers.specs.{Status.verdict_status, declared.answer.Printed.Printed}
 
 -- the text of a report and a line feed, and the status of its verdict; the parts were tested, and
 -- where they are honest it is a report of the program

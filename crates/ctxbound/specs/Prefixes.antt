@@ -3,10 +3,8 @@ use Rattle.std.specs.Prelude.{◌≡◌, ℕ, List, Bool, true, false}
 use Rattle.std.specs.List.{flat_map}
 use Rattle.guest_code.specs.Program.{Program}
 use Rattle.runner_report.specs.Texts.{IsProgramOf}
-use Rattle.walk_items.specs.declared.limits.TheConstants.{BOUND}
-use Rattle.walk_items.specs.declared.mode.Mode.{Mode}
-use Rattle.walk_items.specs.declared.mode.Mode.TheVariants.{Bounded, Reduced}
-use Rattle.walk_items.specs.Items.{ItemView}
+use Rattle.walk_items.specs.{Items.ItemView, declared.limits.TheConstants.BOUND}
+use Rattle.walk_items.specs.declared.mode.Mode.{Mode, TheVariants.{Bounded, Reduced}}
 use Rattle.ctxbound_answers.specs.declared.answer.Printed.{Printed}
 use Rattle.ctxbound_answers.specs.declared.request.PrefixesRequest.{PrefixesRequest}
 use Rattle.walk_cover.specs.Prefixes.{IsListOf, prefix_line}

@@ -1,15 +1,13 @@
 -- What is printed of a search under a prefix of the schedules of a program.
 use Rattle.std.specs.Prelude.{◌≡◌, ◌-◌, ℕ, List, ◌++◌, length, slice_get, Option, Some, None, codes}
 use Rattle.std.specs.Prelude.{string_bytes}
-use Rattle.std.specs.Option.{option_map_or}
-use Rattle.std.specs.List.{flat_map}
+use Rattle.std.specs.{List.flat_map, Option.option_map_or}
 use Rattle.guest_code.specs.Program.{Program}
 use Rattle.replay.specs.Spelling.{Spells}
-use Rattle.runner_report.specs.declared.level.Level.{Level}
+use Rattle.runner_report.specs.{Texts.IsProgramOf, declared.level.Level.Level}
 use Rattle.runner_report.specs.declared.report.Cause.{Cause}
-use Rattle.runner_report.specs.Texts.{IsProgramOf}
-use Rattle.runner_parts.specs.declared.guest.GuestDigest.{GuestDigest}
 use Rattle.runner_parts.specs.PartText.{guest_of, part_text}
+use Rattle.runner_parts.specs.declared.guest.GuestDigest.{GuestDigest}
 use Rattle.runner_joining.specs.Found.{AreLevelsUnder}
 use Rattle.ctxbound_answers.specs.declared.answer.Printed.{Printed}
 use Rattle.ctxbound_answers.specs.declared.request.UnderRequest.{UnderRequest}

@@ -1,8 +1,7 @@
 //! The commands `explore` and `unbounded` with `--under`: searches under a prefix.
 
 ghost use Rattle.std.specs.Prelude.{◌≡◌, ℕ, List, Some, IfOk, IfErr, string_bytes};
-ghost use Rattle.std.specs.Arc.{arc_value};
-ghost use Rattle.std.specs.List.{flat_map};
+ghost use Rattle.std.specs.{Arc.arc_value, List.flat_map};
 ghost use Rattle.ctxbound_answers.specs.Answer.{FaultMeans};
 ghost use Rattle.runner_joining.specs.Found.{AreLevelsUnder};
 ghost use Rattle.ctxbound.specs.Under.{level_line, last_status, IsSearchUnder};

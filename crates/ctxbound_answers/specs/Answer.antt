@@ -2,24 +2,19 @@
 use Rattle.std.specs.Prelude.{◌≡◌, ◌⊎◌, ℕ, List, [], ◌++◌, Bool, true, false, codes, if◌then◌else◌}
 use Rattle.std.specs.Prelude.{Option, Some, None, Result, MatchResult, string_bytes}
 use Rattle.guest_code.specs.Program.{Program}
-use Rattle.semantics.specs.Machine.{start}
+use Rattle.semantics.specs.{Ends.kind_of, Machine.start}
 use Rattle.semantics_schedules.specs.Schedules.{state_after, runs}
-use Rattle.semantics.specs.Ends.{kind_of}
-use Rattle.replay.specs.declared.error.ReplayError.{ReplayError}
-use Rattle.replay.specs.declared.error.ScheduleError.{ScheduleError}
-use Rattle.replay.specs.Run.{ReplayErrorMeans}
-use Rattle.replay.specs.Spelling.{Spells, ScheduleErrorMeans}
-use Rattle.replay.specs.Trace.{Trace}
-use Rattle.runner_report.specs.declared.options.Options.{Options}
-use Rattle.runner_report.specs.declared.report.Report.{Report}
+use Rattle.replay.specs.{Run.ReplayErrorMeans, Spelling.{Spells, ScheduleErrorMeans}, Trace.Trace}
+use Rattle.replay.specs.declared.error.{ReplayError.ReplayError, ScheduleError.ScheduleError}
 use Rattle.runner_report.specs.ReportText.{report_text, named_schedule}
 use Rattle.runner_report.specs.Texts.{IsProgramOf, IsReportOfText, ExploreErrorMeans}
+use Rattle.runner_report.specs.declared.{options.Options.Options, report.Report.Report}
+use Rattle.ctxbound_answers.specs.Status.{replay_status, verdict_status}
 use Rattle.ctxbound_answers.specs.declared.answer.Printed.{Printed}
 use Rattle.ctxbound_answers.specs.declared.exploration.GuestRequest.{GuestRequest}
-use Rattle.ctxbound_answers.specs.declared.exploration.GuestRequest.TheVariants as request
 use Rattle.ctxbound_answers.specs.declared.fault.Fault.{Fault}
 use Rattle.ctxbound_answers.specs.declared.fault.Fault.TheVariants.{Text, Schedule, Replay, Memory}
-use Rattle.ctxbound_answers.specs.Status.{replay_status, verdict_status}
+use Rattle.ctxbound_answers.specs.declared.exploration.GuestRequest.TheVariants as request
 
 -- the schedule runs; its trace is printed, and the status is that of how it ends
 pub record Replays (p : Program) (w : List ℕ) (a : Printed) : Type 0 where

@@ -2,11 +2,10 @@
 use Rattle.std.specs.Prelude.{◌≡◌, ℕ, ◌+◌, List, [], Option, Result, Ok, Err, OnOk, take}
 use Rattle.std.specs.Io.KnownBytes.{Appends}
 use Rattle.guest_syntax.specs.declared.limits.TheConstants.{TEXT_BYTES}
+use Rattle.ctxbound_answers.specs.{Answer.Means, Status.fault_status}
 use Rattle.ctxbound_answers.specs.declared.answer.Printed.{Printed}
 use Rattle.ctxbound_answers.specs.declared.exploration.GuestRequest.{GuestRequest}
 use Rattle.ctxbound_answers.specs.declared.fault.Fault.{Fault}
-use Rattle.ctxbound_answers.specs.Answer.{Means}
-use Rattle.ctxbound_answers.specs.Status.{fault_status}
 
 -- what is read of a file: at most one byte more than a program may have
 abbrev pub part_read : List ℕ → List ℕ

@@ -2,13 +2,12 @@
 use Rattle.std.specs.Prelude.{◌≡◌, ◌≢◌, ◌⊎◌, ℕ, Option, Some, None}
 use Rattle.std.specs.declared.io.ErrorKind.{ErrorKind}
 use Rattle.std.specs.declared.io.ErrorKind.TheVariants as io
-use Rattle.semantics.specs.declared.view.Kind.{Kind}
-use Rattle.semantics.specs.declared.view.Kind.TheVariants.{Done, Failed, Stuck}
+use Rattle.semantics.specs.declared.view.Kind.{Kind, TheVariants.{Done, Failed, Stuck}}
 use Rattle.replay.specs.declared.error.ReplayError.TheVariants as replay
 use Rattle.replay.specs.declared.error.ScheduleError.TheVariants as schedule
-use Rattle.runner_report.specs.declared.error.ExploreError.TheVariants as explore
 use Rattle.runner_report.specs.declared.report.Verdict.{Verdict}
 use Rattle.runner_report.specs.declared.report.Verdict.TheVariants.{Clean, Bad, Incomplete}
+use Rattle.runner_report.specs.declared.error.ExploreError.TheVariants as explore
 use Rattle.ctxbound_answers.specs.declared.fault.Fault.{Fault}
 use Rattle.ctxbound_answers.specs.declared.fault.Fault.TheVariants.{File, Text, Schedule, Replay, Memory}
 

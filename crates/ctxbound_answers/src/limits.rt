@@ -2,8 +2,7 @@
 
 ghost use Rattle.std.specs.Prelude.{◌≤◌};
 ghost use Rattle.runner_workers.specs.declared.limits.TheConstants.{WORKERS};
-ghost use Rattle.runner_report.specs.declared.options.Search.TheVariants.{UpTo};
-ghost use Rattle.runner_report.specs.Promises.{IsSearch};
+ghost use Rattle.runner_report.specs.{Promises.IsSearch, declared.options.Search.TheVariants.UpTo};
 ghost use Rattle.ctxbound_answers.specs.inner.Searches.{IsSearch-prop};
 
 /// The limit of a search, in schedules, where the command words give none.

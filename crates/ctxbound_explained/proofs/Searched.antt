@@ -1,9 +1,8 @@
 -- What is told of one search, or of two.
 use Rattle.std.proofs.Common.{◌≡◌, true, false, refl, sym, subst}
 use Rattle.guest_code.specs.Program.{Program}
-use Rattle.runner_report.specs.declared.options.Options.{Options}
+use Rattle.runner_report.specs.{Promises.IsReport, declared.options.Options.Options}
 use Rattle.runner_report.specs.declared.report.Report.{Report}
-use Rattle.runner_report.specs.Promises.{IsReport}
 use Rattle.ctxbound_explained.specs.Explained.{IsSearched, IsTold, is_followed, told_report, without_bound}
 
 -- a search that none follows

@@ -1,29 +1,22 @@
 -- Which schedule of a program is explained, and the status that the program ends with.
 use Rattle.std.specs.Prelude.{◌≡◌, ◌&&◌, not, nat_eq, if◌then◌else◌, ℕ, List, Bool, true, false}
-use Rattle.std.specs.Prelude.{Option, Some, None, Result, MatchResult}
-use Rattle.std.specs.Prelude.{String, string_bytes, option_map}
+use Rattle.std.specs.Prelude.{Option, Some, None, Result, MatchResult, String, string_bytes}
+use Rattle.std.specs.Prelude.{option_map}
 use Rattle.std.specs.declared.alloc.Global.{Global}
 use Rattle.guest_code.specs.Program.{Program}
 use Rattle.semantics.specs.declared.view.Kind.{Kind}
-use Rattle.explain_run.specs.declared.explanation.Explanation.{Explanation}
-use Rattle.explain_run.specs.Explains.{Explains}
+use Rattle.explain_run.specs.{Explains.Explains, declared.explanation.Explanation.Explanation}
 use Rattle.replay.specs.Spelling.{Spells}
 use Rattle.walk_items.specs.declared.limits.TheConstants.{BOUND}
-use Rattle.runner_report.specs.declared.options.Options.{Options}
-use Rattle.runner_report.specs.declared.options.Search.{Search}
+use Rattle.runner_report.specs.{Promises.IsReport, ReportText.named_schedule, Texts.IsProgramOf}
+use Rattle.runner_report.specs.declared.options.{Options.Options, Search.Search}
 use Rattle.runner_report.specs.declared.options.Search.TheVariants.{UpTo, Unbounded}
-use Rattle.runner_report.specs.declared.report.Report.{Report}
-use Rattle.runner_report.specs.declared.report.Verdict.{Verdict}
+use Rattle.runner_report.specs.declared.report.{Report.Report, Verdict.Verdict}
 use Rattle.runner_report.specs.declared.report.Verdict.TheVariants.{Clean, Bad, Incomplete}
-use Rattle.runner_report.specs.Promises.{IsReport}
-use Rattle.runner_report.specs.ReportText.{named_schedule}
-use Rattle.runner_report.specs.Texts.{IsProgramOf}
-use Rattle.ctxbound_answers.specs.declared.request.ExplainRequest.{ExplainRequest}
-use Rattle.ctxbound_answers.specs.declared.answer.Printed.{Printed}
-use Rattle.ctxbound_answers.specs.declared.fault.Fault.{Fault}
+use Rattle.ctxbound_answers.specs.{Answer.FaultMeans, Status.{replay_status, verdict_status}}
+use Rattle.ctxbound_answers.specs.declared.{answer.Printed.Printed, fault.Fault.Fault}
 use Rattle.ctxbound_answers.specs.declared.fault.Fault.TheVariants.{Replay}
-use Rattle.ctxbound_answers.specs.Answer.{FaultMeans}
-use Rattle.ctxbound_answers.specs.Status.{replay_status, verdict_status}
+use Rattle.ctxbound_answers.specs.declared.request.ExplainRequest.{ExplainRequest}
 use Rattle.ctxbound_explained.specs.declared.explained.Explained.{Explained}
 use Rattle.ctxbound_explained.specs.declared.explained.Explained.TheVariants.{Asked, Found, NoneFound}
 

@@ -3,11 +3,9 @@
 ghost use Rattle.std.specs.Prelude.{◌≡◌, List, ℕ, IfOk, IfErr};
 ghost use Rattle.std.specs.Arc.{arc_value};
 ghost use Rattle.guest_code.specs.SourceMap.{IsMapOf};
-ghost use Rattle.runner_report.specs.declared.error.ExploreError.TheVariants.{OutOfMemory};
 ghost use Rattle.runner_report.specs.Texts.{IsProgramOf, ExploreErrorMeans};
-ghost use Rattle.ctxbound_explained.specs.Explained.{ExplainMeans, ExplainFaultMeans, IsExplained};
-ghost use Rattle.ctxbound_explained.specs.Explained.{IsOfReport, asked, explained_status, told_status};
-ghost use Rattle.ctxbound_explained.specs.Explained.{IsSearched, is_followed, is_open, told_report};
+ghost use Rattle.runner_report.specs.declared.error.ExploreError.TheVariants.{OutOfMemory};
+ghost use Rattle.ctxbound_explained.specs.Explained.{ExplainMeans, ExplainFaultMeans, IsExplained, IsOfReport, asked, explained_status, told_status, IsSearched, is_followed, is_open, told_report};
 
 use ctxbound_answers::{
     ExplainRequest, Exploration, Fault, Host, Printed, REFUSED, replay_status, verdict_status,

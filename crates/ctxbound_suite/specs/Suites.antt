@@ -1,20 +1,18 @@
 -- What a suite answers for the text of a file.
-use Rattle.std.specs.Prelude.{◌≡◌, ◌⊎◌, ℕ, List, Bool, true, false, not, ◌&&◌, nat_eq, min}
-use Rattle.std.specs.Prelude.{Option, Some, None, Result, MatchResult}
+use Rattle.std.specs.Prelude.{◌≡◌, ◌⊎◌, ℕ, List, Bool, true, false, not, ◌&&◌, nat_eq, min, Option}
+use Rattle.std.specs.Prelude.{Some, None, Result, MatchResult}
 use Rattle.walk_items.specs.declared.limits.TheConstants.{BOUND}
 use Rattle.guest_code.specs.Program.{Program}
-use Rattle.runner_report.specs.declared.options.Search.TheVariants.{UpTo, Unbounded}
+use Rattle.runner_report.specs.{Reports.NoBadBelow, Texts.{IsProgramOf, ExploreErrorMeans}}
 use Rattle.runner_report.specs.declared.error.ExploreError.{ExploreError}
+use Rattle.runner_report.specs.declared.options.Search.TheVariants.{UpTo, Unbounded}
 use Rattle.runner_report.specs.declared.report.Verdict.{Verdict}
-use Rattle.runner_report.specs.Reports.{NoBadBelow}
-use Rattle.runner_report.specs.Texts.{IsProgramOf, ExploreErrorMeans}
 use Rattle.ctxbound_answers.specs.declared.limits.Limits.{Limits}
-use Rattle.ctxbound_verify.specs.declared.found.BadSchedule.{BadSchedule}
-use Rattle.ctxbound_verify.specs.declared.found.Found.{Found}
 use Rattle.ctxbound_verify.specs.Shown.{options_of, is_cut_short, clean_below, IsFound}
-use Rattle.ctxbound_suite.specs.declared.searches.SearchResult.{SearchResult}
+use Rattle.ctxbound_verify.specs.declared.found.{BadSchedule.BadSchedule, Found.Found}
 use Rattle.ctxbound_suite.specs.declared.entry.Outcome.{Outcome}
 use Rattle.ctxbound_suite.specs.declared.entry.Outcome.TheVariants.{Searched as Ended, Refused, Unclear, Unread}
+use Rattle.ctxbound_suite.specs.declared.searches.SearchResult.{SearchResult}
 
 -- the search without a bound says all that is to be told: it came to its end, and found no bad
 -- schedule or one without a preemption

@@ -1,23 +1,19 @@
 -- What an answer says of the searches that it is from.
-use Rattle.std.proofs.Common.{◌≡◌, ◌⊎◌, ℕ, ◌+◌, ◌<◌, ◌≤◌, nat_le, Bool, true, false, List, Option, Some, None}
-use Rattle.std.proofs.Common.{inl, inr, refl, sym, ap, subst, arith}
+use Rattle.std.proofs.Common.{◌≡◌, ◌⊎◌, ℕ, ◌+◌, ◌<◌, ◌≤◌, nat_le, Bool, true, false, List, Option, Some, None, inl, inr, refl, sym, ap, subst, arith}
 use Rattle.std.proofs.lemmas.Bool.{leb-true, leb-false, le-leb}
 use Rattle.guest_code.specs.Program.{Program}
 use Rattle.semantics_schedules.specs.Schedules.{preemptions}
 use Rattle.ctxbound_answers.specs.declared.limits.Limits.{Limits}
+use Rattle.runner_report.specs.{ReportText.{named_schedule, verdict_schedule}, Reports.NoBadBelow}
 use Rattle.runner_report.specs.declared.options.Options.{Options}
 use Rattle.runner_report.specs.declared.options.Search.TheVariants.{UpTo, Unbounded}
 use Rattle.runner_report.specs.declared.report.Verdict.{Verdict}
 use Rattle.runner_report.specs.declared.report.Verdict.TheVariants.{Clean, Bad, Incomplete}
-use Rattle.runner_report.specs.ReportText.{named_schedule, verdict_schedule}
-use Rattle.runner_report.specs.Reports.{NoBadBelow}
-use Rattle.ctxbound_verify.specs.declared.answer.Correctness.TheVariants as answers
-use Rattle.ctxbound_verify.specs.declared.found.BadSchedule.{BadSchedule}
-use Rattle.ctxbound_verify.specs.declared.found.Found.{Found}
-use Rattle.ctxbound_verify.specs.Shown.{options_of, is_clean, is_cut_short, IsBadOf, IsNamedBad, IsFound}
-use Rattle.ctxbound_verify.specs.Shown.{WasCut, Names, IsLeft}
 use Rattle.ctxbound_verify.specs.Answers.{AnswerMeans, answer_of, stop_of}
+use Rattle.ctxbound_verify.specs.Shown.{options_of, is_clean, is_cut_short, IsBadOf, IsNamedBad, IsFound, WasCut, Names, IsLeft}
+use Rattle.ctxbound_verify.specs.declared.found.{BadSchedule.BadSchedule, Found.Found}
 use Rattle.ctxbound_verify.proofs.Shows.{named_has_few}
+use Rattle.ctxbound_verify.specs.declared.answer.Correctness.TheVariants as answers
 
 -- none has fewer preemptions than this many, so none has fewer than fewer
 fewer : (p : Program) (m n : ℕ) → m ≤ n → NoBadBelow p n → NoBadBelow p m

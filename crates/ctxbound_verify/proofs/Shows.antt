@@ -1,37 +1,30 @@
 -- What the report of a search shows: that the schedule that it names is bad, below how many
 -- preemptions none is bad, and that none is bad at all.
-use Rattle.std.proofs.Common.{◌≡◌, ℕ, ◌+◌, ◌≤◌, true, false}
-use Rattle.std.proofs.Common.{List, Option, Some, None, refl, ap, ◌∙◌, sym, arith, subst}
+use Rattle.std.proofs.Common.{◌≡◌, ℕ, ◌+◌, ◌≤◌, true, false, List, Option, Some, None, refl, ap}
+use Rattle.std.proofs.Common.{◌∙◌, sym, arith, subst}
 use Rattle.std.specs.List.{filter, Contains}
 use Rattle.guest_code.specs.Program.{Program}
-use Rattle.semantics.specs.Machine.{start}
-use Rattle.semantics.specs.Waiters.{In}
+use Rattle.semantics.specs.{Machine.start, Waiters.In}
 use Rattle.semantics.proofs.ListMembers.{in_contains, contains_in, from_filter}
-use Rattle.semantics_schedules.specs.Schedules.{complete_schedules, preemptions, schedules_within}
 use Rattle.semantics_schedules.specs.Order.{least, ends_badly}
-use Rattle.semantics_schedules.proofs.LeastSchedule.{least_some}
-use Rattle.semantics_schedules.proofs.StatedLaws.{complete}
+use Rattle.semantics_schedules.specs.Schedules.{complete_schedules, preemptions, schedules_within}
+use Rattle.semantics_schedules.proofs.{LeastSchedule.least_some, ReducedSchedules.in_red}
 use Rattle.semantics_schedules.proofs.SchedulesUnderPrefix.{in_under, in_within}
-use Rattle.semantics_schedules.proofs.ReducedSchedules.{in_red}
-use Rattle.walk_items.specs.declared.mode.Mode.{Mode}
-use Rattle.walk_items.specs.declared.mode.Mode.TheVariants.{Bounded, Reduced}
-use Rattle.walk_items.specs.Items.{root_of, schedules_of}
-use Rattle.walk_items.specs.Walks.{clear_of as left_by}
-use Rattle.walk_items.proofs.Splits.{root_within, split_part}
-use Rattle.walk_items.proofs.WalkedItems.{root_pruned}
+use Rattle.semantics_schedules.proofs.StatedLaws.{complete}
+use Rattle.walk_items.specs.{Items.{root_of, schedules_of}, Walks.clear_of as left_by}
+use Rattle.walk_items.specs.declared.mode.Mode.{Mode, TheVariants.{Bounded, Reduced}}
+use Rattle.walk_items.proofs.{Splits.{root_within, split_part}, WalkedItems.root_pruned}
 use Rattle.walk_summary.specs.Summaries.{SummaryView, sum_of}
-use Rattle.runner_report.specs.declared.options.Options.{Options}
-use Rattle.runner_report.specs.declared.options.Search.{Search}
-use Rattle.runner_report.specs.declared.options.Search.TheVariants.{UpTo, Unbounded}
-use Rattle.runner_report.specs.declared.report.Report.{Report}
-use Rattle.runner_report.specs.declared.report.Verdict.{Verdict}
-use Rattle.runner_report.specs.declared.report.Verdict.TheVariants.{Clean, Bad, Incomplete}
+use Rattle.runner_report.specs.Promises.{IsReport, IsReportFor, IsBoundedVerdict, IsUnboundedVerdict}
 use Rattle.runner_report.specs.ReportText.{named_schedule, verdict_schedule}
 use Rattle.runner_report.specs.Reports.{IsBadSchedule, NoBadBelow, HasItems}
-use Rattle.runner_report.specs.Promises.{IsReport, IsReportFor, IsBoundedVerdict, IsUnboundedVerdict}
-use Rattle.ctxbound_verify.specs.declared.found.BadSchedule.{BadSchedule}
+use Rattle.runner_report.specs.declared.options.{Options.Options, Search.Search}
+use Rattle.runner_report.specs.declared.options.Search.TheVariants.{UpTo, Unbounded}
+use Rattle.runner_report.specs.declared.report.{Report.Report, Verdict.Verdict}
+use Rattle.runner_report.specs.declared.report.Verdict.TheVariants.{Clean, Bad, Incomplete}
 use Rattle.ctxbound_verify.specs.Shown.{clear_of, is_clean, is_right, IsRight, IsRightUpTo}
 use Rattle.ctxbound_verify.specs.Shown.{IsNamedBad, IsFound}
+use Rattle.ctxbound_verify.specs.declared.found.BadSchedule.{BadSchedule}
 
 -- a schedule of the root in a mode is a complete one
 of_root : (p : Program) (mode : Mode) (w : List ℕ) → In (schedules_of mode (root_of p)) w

@@ -3,18 +3,13 @@ use Rattle.std.specs.Prelude.{◌≡◌, ℕ, ◌+◌, List, Bool, true, false, 
 use Rattle.guest_code.specs.Program.{Program}
 use Rattle.semantics_schedules.specs.Schedules.{preemptions}
 use Rattle.walk_summary.specs.Summaries.{end_kind}
-use Rattle.runner_report.specs.declared.limits.TheConstants.{QUOTA}
-use Rattle.runner_report.specs.declared.options.Options.{Options}
-use Rattle.runner_report.specs.declared.options.Search.{Search}
-use Rattle.runner_report.specs.declared.options.Search.TheVariants.{UpTo, Unbounded}
-use Rattle.runner_report.specs.declared.report.Report.{Report}
-use Rattle.runner_report.specs.declared.report.Verdict.{Verdict}
-use Rattle.runner_report.specs.declared.report.Verdict.TheVariants.{Clean, Bad, Incomplete}
-use Rattle.runner_report.specs.ReportText.{named_schedule}
+use Rattle.runner_report.specs.{Promises.IsReport, ReportText.named_schedule}
 use Rattle.runner_report.specs.Reports.{IsBadSchedule, NoBadBelow}
-use Rattle.runner_report.specs.Promises.{IsReport}
-use Rattle.ctxbound_verify.specs.declared.found.BadSchedule.{BadSchedule}
-use Rattle.ctxbound_verify.specs.declared.found.Found.{Found}
+use Rattle.runner_report.specs.declared.{limits.TheConstants.QUOTA, options.Options.Options}
+use Rattle.runner_report.specs.declared.options.Search.{Search, TheVariants.{UpTo, Unbounded}}
+use Rattle.runner_report.specs.declared.report.{Report.Report, Verdict.Verdict}
+use Rattle.runner_report.specs.declared.report.Verdict.TheVariants.{Clean, Bad, Incomplete}
+use Rattle.ctxbound_verify.specs.declared.found.{BadSchedule.BadSchedule, Found.Found}
 
 -- a search as far as this that is cut short at the limit
 abbrev pub options_of : Search → ℕ → Options

@@ -1,19 +1,16 @@
 -- The marks, from one place to the one before it.
-use Rattle.std.proofs.Common.{◌≡◌, ℕ, ◌+◌, ◌<◌, List, [], ◌∷◌, length, take, drop, get_or, Option, Some, None, refl, ap, ◌∙◌, sym, subst, arith}
 use Rattle.std.specs.Prelude.{Bool, true, cond, ◌&&◌, IfSome, slice_index_or, slice_set}
-use Rattle.std.specs.List.{count_by}
-use Rattle.std.proofs.lemmas.Bool.{eq-eqb}
-use Rattle.guest_code.specs.declared.limits.TheConstants.{THREADS, VARIABLES}
+use Rattle.std.proofs.Common.{◌≡◌, ℕ, ◌+◌, ◌<◌, List, [], ◌∷◌, length, take, drop, get_or, Option, Some, None, refl, ap, ◌∙◌, sym, subst, arith}
+use Rattle.std.{specs.List.count_by, proofs.lemmas.Bool.eq-eqb}
 use Rattle.guest_code.specs.Program.{Program, IsWellFormed}
-use Rattle.explain_cause.specs.declared.event.Event.{Event}
+use Rattle.guest_code.specs.declared.limits.TheConstants.{THREADS, VARIABLES}
+use Rattle.explain_cause.specs.{Causes.{is_needed, marks_in}, Events.is_use}
 use Rattle.explain_cause.specs.declared.backward_slice.BackwardSlice.{BackwardSlice}
-use Rattle.check_lint.specs.Uses.{is, variable_used}
-use Rattle.explain_cause.specs.Events.{is_use}
-use Rattle.explain_cause.specs.Causes.{is_needed, marks_in}
+use Rattle.explain_cause.specs.{declared.event.Event.Event, inner.Keeping.{IsMovedBefore, needs}}
 use Rattle.explain_cause.specs.inner.Wanting.{IsValidEvent, IsWanted}
-use Rattle.explain_cause.specs.inner.Keeping.{IsMovedBefore, needs}
 use Rattle.explain_cause.proofs.Following.{needs_alike, one_more, taken_on}
 use Rattle.explain_cause.proofs.Places.{marked_at, rest_marked, set_at, up_to}
+use Rattle.check_lint.specs.Uses.{is, variable_used}
 
 module _ (p : Program) (events : List Event) (k : ℕ) (d : Event) (old : BackwardSlice)
     (f : IsWellFormed p) (l : k < length events) (v : IsValidEvent p (get_or events k d))

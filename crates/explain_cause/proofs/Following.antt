@@ -1,20 +1,19 @@
 -- What is kept is what the events from a place on need, from one place to the one before it.
-use Rattle.std.proofs.Common.{◌≡◌, ℕ, zero, suc, ◌+◌, ◌-◌, ◌<◌, List, [], ◌∷◌, ◌++◌, Option, Some, None, refl, ap, ◌∙◌, arith}
 use Rattle.std.specs.Prelude.{Bool, true, false, cond, not, ◌||◌, ◌&&◌, IfSome, nat_eq, nat_lt, slice_index_or, if◌then◌else◌}
-use Rattle.std.specs.List.{list_any, count_by}
-use Rattle.guest_code.specs.declared.limits.TheConstants.{LOCALS, THREADS, VARIABLES}
+use Rattle.std.proofs.Common.{◌≡◌, ℕ, zero, suc, ◌+◌, ◌-◌, ◌<◌, List, [], ◌∷◌, ◌++◌, Option, Some, None, refl, ap, ◌∙◌, arith}
+use Rattle.std.{specs.List.{list_any, count_by}, proofs.lemmas.List.Sums.sum_by-append}
 use Rattle.guest_code.specs.Program.{Program, IsWellFormed}
-use Rattle.explain_cause.specs.declared.event.Event.{Event}
-use Rattle.explain_cause.specs.declared.backward_slice.BackwardSlice.{BackwardSlice}
-use Rattle.check_lint.specs.Uses.{local_set}
-use Rattle.explain_cause.specs.Events.{written_by, is_end, reads, writes, is_use, sets_local, uses_local}
+use Rattle.guest_code.specs.declared.limits.TheConstants.{LOCALS, THREADS, VARIABLES}
 use Rattle.explain_cause.specs.Asked.{asks_for}
 use Rattle.explain_cause.specs.Causes.{Marked, any_below, decides, flows_on, is_missed, is_missed_by, is_needed, is_next, is_read, is_read_from, least_with, ends_with, passes_by_read}
-use Rattle.explain_cause.specs.inner.Wanting.{IsValidEvent, IsWanted}
-use Rattle.explain_cause.specs.inner.Keeping.{IsMovedBefore, count, decides_by, entry, found, is_missed_by_in, is_missed_in, needs, passes_in, passes_read_in}
+use Rattle.explain_cause.specs.Events.{written_by, is_end, reads, writes, is_use, sets_local, uses_local}
 use Rattle.explain_cause.specs.Tests.{passes_write}
-use Rattle.std.proofs.lemmas.List.Sums.{sum_by-append}
+use Rattle.explain_cause.specs.declared.backward_slice.BackwardSlice.{BackwardSlice}
+use Rattle.explain_cause.specs.declared.event.Event.{Event}
+use Rattle.explain_cause.specs.inner.Keeping.{IsMovedBefore, count, decides_by, entry, found, is_missed_by_in, is_missed_in, needs, passes_in, passes_read_in}
+use Rattle.explain_cause.specs.inner.Wanting.{IsValidEvent, IsWanted}
 use Rattle.explain_cause.proofs.Valid.{sets_few, writes_few}
+use Rattle.check_lint.specs.Uses.{local_set}
 
 -- each part of a need is alike, so the need is
 both : (a b c d : Bool) → a ≡ b → c ≡ d → (a || c) ≡ (b || d)

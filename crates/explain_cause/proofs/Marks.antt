@@ -1,22 +1,18 @@
 -- The marks are true exactly of the events in the cause.
-use Rattle.std.proofs.Common.{◌≡◌, ◌≢◌, ◌⊎◌, inl, inr, ℕ, zero, suc, ◌+◌, ◌-◌, ◌<◌, ◌≤◌, List, [], ◌∷◌, ◌++◌, length, take, get_or, length-take, get_or-take, Option, Some, None, refl, ap, ◌∙◌, sym, subst, arith}
 use Rattle.std.specs.Prelude.{Bool, true, false, cond, not, ◌||◌, ◌&&◌, nat_eq, nat_lt, slice_index_or, unwrap_or, if◌then◌else◌}
+use Rattle.std.proofs.Common.{◌≡◌, ◌≢◌, ◌⊎◌, inl, inr, ℕ, zero, suc, ◌+◌, ◌-◌, ◌<◌, ◌≤◌, List, [], ◌∷◌, ◌++◌, length, take, get_or, length-take, get_or-take, Option, Some, None, refl, ap, ◌∙◌, sym, subst, arith}
 use Rattle.std.specs.List.{list_any, count_by}
-use Rattle.std.proofs.lemmas.List.{drop_all}
+use Rattle.std.proofs.lemmas.{Bool.{eqb-true, eq-eqb, lt-ltb, ltb-true}, List.drop_all}
 use Rattle.std.proofs.lemmas.List.Folds.{list_any-append}
-use Rattle.std.proofs.lemmas.Bool.{eqb-true, eq-eqb, lt-ltb, ltb-true}
-use Rattle.guest_code.specs.declared.limits.TheConstants.{THREADS, VARIABLES}
 use Rattle.guest_code.specs.Program.{Program, code_of}
-use Rattle.explain_cause.specs.declared.event.Event.{Event}
-use Rattle.check_lint.specs.Uses.{is, local_set}
-use Rattle.explain_cause.specs.Events.{is_end, is_use, reads, sets_local, uses_local, writes, written_by}
+use Rattle.guest_code.specs.declared.limits.TheConstants.{THREADS, VARIABLES}
 use Rattle.explain_cause.specs.Asked.{asks_for}
-use Rattle.check_lint.specs.Paths.{is_test}
-use Rattle.explain_cause.specs.Tests.{merge_point, passes_write}
 use Rattle.explain_cause.specs.Causes.{Marked, NoneOf, any_below, decides, ends_in, event_at, flows_on, is_missed, is_missed_by, is_needed, is_next, is_read, is_read_from, is_below, least_in, least_with, lesser, marked, marks_in, no_event, passes_by_read, soon}
+use Rattle.explain_cause.specs.Events.{is_end, is_use, reads, sets_local, uses_local, writes, written_by}
 use Rattle.explain_cause.specs.Needs.{AreMarks, Asks, FlowsFrom, InCause, IsDecidedBy, Misses, ReadsFrom, ReadsPast, ends, needed}
-use Rattle.explain_cause.proofs.Places.{marked_at, rest_marked}
-use Rattle.explain_cause.proofs.Rows.{count_first, true_below}
+use Rattle.explain_cause.specs.{Tests.{merge_point, passes_write}, declared.event.Event.Event}
+use Rattle.explain_cause.proofs.{Places.{marked_at, rest_marked}, Rows.{count_first, true_below}}
+use Rattle.check_lint.specs.{Paths.is_test, Uses.{is, local_set}}
 
 or_true : (a b : Bool) → (a || b) ≡ true → (a ≡ true) ⊎ (b ≡ true)
 or_true true b h = inl refl

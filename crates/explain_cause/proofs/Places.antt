@@ -1,13 +1,11 @@
 -- The marks from a place on.
-use Rattle.std.proofs.Common.{◌≡◌, ℕ, zero, suc, ◌+◌, ◌<◌, List, [], ◌∷◌, ◌++◌, length, take, drop, get_or, refl, ap, ◌∙◌, sym, arith, add-one}
 use Rattle.std.specs.Prelude.{Bool, None, pos, slice_set}
-use Rattle.guest_code.specs.declared.program.Instruction.TheVariants.{Load}
-use Rattle.replay.specs.declared.run.Act.TheVariants.{Load as Loads}
-use Rattle.explain_cause.specs.declared.event.Deed.TheVariants.{Stepped}
+use Rattle.std.proofs.Common.{◌≡◌, ℕ, zero, suc, ◌+◌, ◌<◌, List, [], ◌∷◌, ◌++◌, length, take, drop, get_or, refl, ap, ◌∙◌, sym, arith, add-one}
 use Rattle.std.proofs.Math.Seq.{take-suc, drop-cons}
-use Rattle.guest_code.specs.Program.{Program}
-use Rattle.explain_cause.specs.declared.event.Event.{Event}
+use Rattle.guest_code.specs.{Program.Program, declared.program.Instruction.TheVariants.Load}
+use Rattle.replay.specs.declared.run.Act.TheVariants.{Load as Loads}
 use Rattle.explain_cause.specs.Causes.{Marked, is_needed, marked}
+use Rattle.explain_cause.specs.declared.event.{Deed.TheVariants.Stepped, Event.Event}
 
 -- what the code reads where no event is
 abbrev pub first_event : Event

@@ -1,11 +1,10 @@
 -- Lists of which one entry changes.
-use Rattle.std.proofs.Common.{◌≡◌, ℕ, zero, suc, ◌+◌, ◌<◌, List, [], ◌∷◌, length, take, get_or, inl, inr, refl, ap, ◌∙◌, sym, subst, arith}
 use Rattle.std.specs.Prelude.{Bool, true, false, cond, ◌||◌, ◌&&◌, nat_eq, slice_index_or, slice_set, if◌then◌else◌}
-use Rattle.std.specs.List.{count_by}
-use Rattle.explain_cause.specs.Causes.{any_below}
+use Rattle.std.proofs.Common.{◌≡◌, ℕ, zero, suc, ◌+◌, ◌<◌, List, [], ◌∷◌, length, take, get_or, inl, inr, refl, ap, ◌∙◌, sym, subst, arith}
+use Rattle.std.{specs.List.count_by, proofs.lemmas.Bool.{cases_eq, cases_lt, eq-eqb, ne_eqb}}
 use Rattle.std.proofs.lemmas.List.{get_or-set_same, get_or-set_other}
 use Rattle.std.proofs.lemmas.List.Sums.{count_by_more_yes, count_by_more_no, sum_by-append}
-use Rattle.std.proofs.lemmas.Bool.{cases_eq, cases_lt, eq-eqb, ne_eqb}
+use Rattle.explain_cause.specs.Causes.{any_below}
 
 -- entry k changes so
 pub entry_on : {A : Type 0} → (xs : List A) (k t : ℕ) (v d : A) (F : Bool → A → A) →

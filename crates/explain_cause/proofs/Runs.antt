@@ -1,15 +1,12 @@
 -- What happens in a run, one thing after the other.
-use Rattle.std.proofs.Common.{◌≡◌, ℕ, zero, suc, ◌+◌, ◌-◌, ◌<◌, ℤ, List, [], ◌∷◌, ◌++◌, length, drop, get_or, Option, Some, None, ap, ◌∙◌, sym, arith, add-one, append_assoc}
 use Rattle.std.specs.Prelude.{true, false, nat_eq, slice_set, slice_get, if◌then◌else◌}
-use Rattle.std.proofs.lemmas.List.{get_or-set_same, set-get_or, set-set}
-use Rattle.std.proofs.Math.Seq.{drop-cons}
-use Rattle.guest_code.specs.declared.program.Instruction.{Instruction}
-use Rattle.guest_code.specs.Program.{Program, code_of}
+use Rattle.std.proofs.Common.{◌≡◌, ℕ, zero, suc, ◌+◌, ◌-◌, ◌<◌, ℤ, List, [], ◌∷◌, ◌++◌, length, drop, get_or, Option, Some, None, ap, ◌∙◌, sym, arith, add-one, append_assoc}
+use Rattle.std.proofs.{Math.Seq.drop-cons, lemmas.List.{get_or-set_same, set-get_or, set-set}}
+use Rattle.guest_code.specs.{Program.{Program, code_of}, declared.program.Instruction.Instruction}
 use Rattle.explain_run.specs.declared.step.Step.{Step}
-use Rattle.explain_cause.specs.declared.event.Event.{Event}
-use Rattle.check_lint.specs.Uses.{local_set}
-use Rattle.explain_cause.specs.Events.{value_by}
 use Rattle.explain_cause.specs.Course.{all_after, events_by, events_from, events_in, local_events, locals_after, locals_with, opening_from, row, visible_event}
+use Rattle.explain_cause.specs.{Events.value_by, declared.event.Event.Event}
+use Rattle.check_lint.specs.Uses.{local_set}
 
 -- an instruction that is passed over
 pub jumped : (t : ℕ) (step : Option ℕ) (code : List Instruction) (k skip : ℕ) (locals : List ℤ)

@@ -1,22 +1,18 @@
 -- What follows of the marks.
-use Rattle.std.proofs.Common.{◌≡◌, inl, inr, ℕ, ◌+◌, ◌<◌, List, length, Option, Some, None, refl, sym, subst, arith}
 use Rattle.std.specs.Prelude.{Bool, true, false, ◌&&◌, nat_eq, slice_index_or}
-use Rattle.std.specs.Option.{option_or}
-use Rattle.std.proofs.lemmas.Bool.{eq-eqb, eqb-true}
+use Rattle.std.proofs.Common.{◌≡◌, inl, inr, ℕ, ◌+◌, ◌<◌, List, length, Option, Some, None, refl, sym, subst, arith}
+use Rattle.std.{specs.Option.option_or, proofs.lemmas.Bool.{eq-eqb, eqb-true}}
 use Rattle.guest_code.specs.Program.{Program}
 use Rattle.explain_run.specs.declared.explanation.Explanation.{Explanation}
-use Rattle.explain_cause.specs.declared.causes.Causes.{Causes}
-use Rattle.explain_cause.specs.declared.event.Event.{Event}
-use Rattle.check_lint.specs.Uses.{is, local_set, variable_read, variable_used, variable_written}
-use Rattle.check_lint.specs.Paths.{is_test}
+use Rattle.explain_cause.specs.{Asked.asks_for, Causes.{NoneOf, event_at}}
 use Rattle.explain_cause.specs.Events.{is_end, reads, sets_local, uses_local, writes, written_by}
-use Rattle.explain_cause.specs.Asked.{asks_for}
-use Rattle.explain_cause.specs.Causes.{NoneOf, event_at}
-use Rattle.explain_cause.specs.Needs.{FlowsFrom, InCause, Needs, ends, needed}
+use Rattle.explain_cause.specs.{Needs.{FlowsFrom, InCause, Needs, ends, needed}, Tests.passes_write}
 use Rattle.explain_cause.specs.Told.{Tells}
 use Rattle.explain_cause.specs.Touching.{passes_variable, touches, uses_own, uses_variable}
-use Rattle.explain_cause.specs.Tests.{passes_write}
+use Rattle.explain_cause.specs.declared.{causes.Causes.Causes, event.Event.Event}
 use Rattle.explain_cause.proofs.Marks.{and_true, both_true, in_run, left_true, right_true}
+use Rattle.check_lint.specs.Paths.{is_test}
+use Rattle.check_lint.specs.Uses.{is, local_set, variable_read, variable_used, variable_written}
 
 -- the events in the cause are marked
 marked_in : (p : Program) (run : Explanation) (told : Causes) (k : ℕ) → Tells p run told →

@@ -1,28 +1,21 @@
 -- The numbers of events are in range.
-use Rattle.std.proofs.Common.{◌≡◌, ℕ, zero, suc, ◌+◌, ◌<◌, ◌≤◌, ℤ, List, [], ◌∷◌, ◌++◌, length, drop, length-drop, Option, Some, None, refl, ap, subst, arith}
 use Rattle.std.specs.Prelude.{Bool, true, false, IfSome, nat_eq, slice_get, slice_index_or, if◌then◌else◌}
-use Rattle.std.specs.List.{All, list_any}
-use Rattle.std.proofs.lemmas.Bool.{eqb-true}
+use Rattle.std.proofs.Common.{◌≡◌, ℕ, zero, suc, ◌+◌, ◌<◌, ◌≤◌, ℤ, List, [], ◌∷◌, ◌++◌, length, drop, length-drop, Option, Some, None, refl, ap, subst, arith}
+use Rattle.std.{specs.List.{All, list_any}, proofs.lemmas.Bool.eqb-true}
+use Rattle.guest_code.specs.Program.{Program, Thread, IsValid, IsValidCode, IsWellFormed, code_of, no_thread}
 use Rattle.guest_code.specs.declared.limits.TheConstants.{LOCALS, VARIABLES}
 use Rattle.guest_code.specs.declared.program.Instruction.{Instruction}
 use Rattle.guest_code.specs.declared.program.Instruction.TheVariants.{Load, Store, Add, Cas, Lock, Unlock, Wait, Signal, Broadcast, Acquire, Release, Set, Assert, SkipIfZero, Skip}
-use Rattle.guest_code.specs.Program.{Program, Thread, IsValid, IsValidCode, IsWellFormed, code_of, no_thread}
-use Rattle.semantics.specs.Expressions.{value_of_expression, is_zero}
-use Rattle.semantics.specs.Ends.{is_stopped}
+use Rattle.semantics.specs.{Ends.is_stopped, Expressions.{value_of_expression, is_zero}}
 use Rattle.replay.specs.declared.run.Act.TheVariants.{Cas as Swaps}
-use Rattle.explain_run.specs.declared.explanation.Explanation.{Explanation}
-use Rattle.explain_run.specs.declared.explanation.Holder.{Holder}
-use Rattle.explain_run.specs.Blocked.{mutex_of}
-use Rattle.explain_run.specs.declared.thread_state.Reason.{Reason}
-use Rattle.explain_run.specs.declared.thread_state.ThreadState.{ThreadState}
-use Rattle.explain_run.specs.declared.step.Step.{Step}
-use Rattle.explain_cause.specs.declared.event.Deed.{Deed}
-use Rattle.explain_cause.specs.declared.event.Deed.TheVariants.{Stepped, Blocked}
-use Rattle.explain_cause.specs.declared.event.Event.{Event}
-use Rattle.check_lint.specs.Uses.{is, local_set, variable_read, variable_used}
-use Rattle.explain_cause.specs.Events.{written_by}
+use Rattle.explain_run.specs.{Blocked.mutex_of, declared.explanation.Explanation.Explanation}
+use Rattle.explain_run.specs.declared.{explanation.Holder.Holder, step.Step.Step}
+use Rattle.explain_run.specs.declared.thread_state.{Reason.Reason, ThreadState.ThreadState}
 use Rattle.explain_cause.specs.Course.{all_after, all_zero, blocked_by, blocked_from, blocked_in, course, events_by, events_from, events_in, listed, local_events, opening_from, owner_for, row, visible_event}
+use Rattle.explain_cause.specs.{Events.written_by, declared.event.Deed.Deed}
+use Rattle.explain_cause.specs.declared.event.{Deed.TheVariants.{Stepped, Blocked}, Event.Event}
 use Rattle.explain_cause.specs.inner.Wanting.{IsValidEvent}
+use Rattle.check_lint.specs.Uses.{is, local_set, variable_read, variable_used}
 
 -- a variable that is written, and a local that is set
 

@@ -1,18 +1,15 @@
 -- What an end of a run asks for.
 use Rattle.std.specs.Prelude.{ℕ, nat_eq, nat_le, ◌+◌, Bool, false, not, ◌||◌, ◌&&◌, drop, take, Option, Some, None}
 use Rattle.std.specs.List.{list_any}
-use Rattle.guest_code.specs.declared.program.Instruction.{Instruction}
+use Rattle.guest_code.specs.{Program.{Program, code_of}, declared.program.Instruction.Instruction}
 use Rattle.guest_code.specs.declared.program.Instruction.TheVariants.{Unlock, Wait, Release}
-use Rattle.guest_code.specs.Program.{Program, code_of}
-use Rattle.explain_run.specs.declared.explanation.Holder.{Holder}
+use Rattle.explain_run.specs.{Blocked.could_end, declared.explanation.Holder.Holder}
 use Rattle.explain_run.specs.declared.thread_state.Reason.{Reason}
 use Rattle.explain_run.specs.declared.thread_state.Reason.TheVariants as reasons
-use Rattle.explain_run.specs.Blocked.{could_end}
-use Rattle.explain_cause.specs.declared.event.Deed.{Deed}
+use Rattle.explain_cause.specs.{Events.{is_step, jump_by}, declared.event.Deed.Deed}
 use Rattle.explain_cause.specs.declared.event.Deed.TheVariants.{Stepped, Ran, Blocked}
 use Rattle.explain_cause.specs.declared.event.Event.{Event}
 use Rattle.check_lint.specs.Uses.{is, names_mutex, names_condition, names_semaphore}
-use Rattle.explain_cause.specs.Events.{is_step, jump_by}
 
 -- a statement names the mutex or the semaphore at which a thread stops at the first statement
 abbrev pub shares_object : Instruction → Instruction → Bool

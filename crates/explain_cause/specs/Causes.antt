@@ -3,16 +3,14 @@
 -- cause, needs it.
 use Rattle.std.specs.Prelude.{◌≡◌, ℕ, zero, suc, ◌<◌, ◌≤◌, ◌↔◌, nat_eq, nat_lt, pos, Bool, true, false, not, ◌||◌, ◌&&◌, List, [], ◌∷◌, ◌++◌, map, length, Option, Some, None, slice_index_or, if◌then◌else◌}
 use Rattle.std.specs.List.{list_any, count_by}
+use Rattle.guest_code.specs.Program.{Program, code_of}
 use Rattle.guest_code.specs.declared.limits.TheConstants.{THREADS, VARIABLES}
 use Rattle.guest_code.specs.declared.program.Instruction.TheVariants.{Skip}
-use Rattle.guest_code.specs.Program.{Program, code_of}
-use Rattle.explain_cause.specs.declared.event.Deed.TheVariants.{Ran}
-use Rattle.explain_cause.specs.declared.event.Event.{Event}
-use Rattle.check_lint.specs.Uses.{local_set}
-use Rattle.explain_cause.specs.Events.{written_by, is_end, reads, writes, is_use, sets_local, uses_local}
 use Rattle.explain_cause.specs.Asked.{asks_for}
-use Rattle.check_lint.specs.Paths.{is_test}
+use Rattle.explain_cause.specs.Events.{written_by, is_end, reads, writes, is_use, sets_local, uses_local}
 use Rattle.explain_cause.specs.Tests.{merge_point, passes_write}
+use Rattle.explain_cause.specs.declared.event.{Deed.TheVariants.Ran, Event.Event}
+use Rattle.check_lint.specs.{Paths.is_test, Uses.local_set}
 
 -- an event, and whether it is in the cause
 pub record Marked : Type 0 where

@@ -1,10 +1,8 @@
 -- Which steps change a variable.
 use Rattle.std.specs.Prelude.{◌≡◌, ℕ, ◌+◌, ◌<◌, ◌≤◌, nat_eq, Bool, true, false, not, ◌&&◌, List, length, slice_index_or}
 use Rattle.std.specs.Ordering.{int_eq}
-use Rattle.explain_run.specs.declared.object.Object.{Object}
-use Rattle.explain_run.specs.declared.object.Object.TheVariants.{Variable}
-use Rattle.explain_run.specs.declared.object.ObjectState.{ObjectState}
-use Rattle.explain_run.specs.declared.object.ObjectState.TheVariants.{Value}
+use Rattle.explain_run.specs.declared.object.Object.{Object, TheVariants.Variable}
+use Rattle.explain_run.specs.declared.object.ObjectState.{ObjectState, TheVariants.Value}
 use Rattle.explain_run.specs.declared.step.Step.{Step}
 
 -- a step changes variable x: it leaves another value there than it found

@@ -1,24 +1,19 @@
 -- What happens in a run, one thing after the other.
 use Rattle.std.specs.Prelude.{ℕ, zero, suc, ◌+◌, nat_eq, ℤ, pos, List, [], ◌∷◌, ◌++◌, length, drop, replicate, slice_get, slice_index_or, slice_set, Option, Some, None, if◌then◌else◌}
 use Rattle.std.specs.List.{list_any}
+use Rattle.guest_code.specs.Program.{Program, code_of}
 use Rattle.guest_code.specs.declared.limits.TheConstants.{LOCALS, THREADS}
 use Rattle.guest_code.specs.declared.program.Instruction.{Instruction}
 use Rattle.guest_code.specs.declared.program.Instruction.TheVariants.{Load, Store, Add, Cas, Lock, Unlock, Wait, Signal, Broadcast, Acquire, Release, Set, Assert, SkipIfZero, Skip}
-use Rattle.guest_code.specs.Program.{Program, code_of}
-use Rattle.semantics.specs.declared.state.Stop.{Stop}
-use Rattle.semantics.specs.declared.state.Stop.TheVariants.{Assert as FailedAssert}
-use Rattle.semantics.specs.Expressions.{value_of_expression, is_zero}
-use Rattle.semantics.specs.Ends.{is_stopped}
-use Rattle.explain_run.specs.declared.explanation.Explanation.{Explanation}
-use Rattle.explain_run.specs.declared.explanation.Holder.{Holder}
-use Rattle.explain_run.specs.declared.thread_state.Reason.{Reason}
-use Rattle.explain_run.specs.declared.thread_state.ThreadState.{ThreadState}
-use Rattle.explain_run.specs.declared.step.Step.{Step}
-use Rattle.explain_run.specs.Blocked.{mutex_of}
+use Rattle.semantics.specs.{Ends.is_stopped, Expressions.{value_of_expression, is_zero}}
+use Rattle.semantics.specs.declared.state.Stop.{Stop, TheVariants.Assert as FailedAssert}
+use Rattle.explain_run.specs.{Blocked.mutex_of, declared.explanation.Explanation.Explanation}
+use Rattle.explain_run.specs.declared.{explanation.Holder.Holder, step.Step.Step}
+use Rattle.explain_run.specs.declared.thread_state.{Reason.Reason, ThreadState.ThreadState}
+use Rattle.explain_cause.specs.Events.{value_by}
 use Rattle.explain_cause.specs.declared.event.Deed.TheVariants.{Stepped, Ran, Blocked}
 use Rattle.explain_cause.specs.declared.event.Event.{Event}
 use Rattle.check_lint.specs.Uses.{local_set}
-use Rattle.explain_cause.specs.Events.{value_by}
 
 -- a thread, after a step or before the first one, carries an instruction out by itself
 abbrev pub ran : ℕ → Option ℕ → ℕ → Instruction → ℤ → Event

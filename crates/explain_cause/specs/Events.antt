@@ -2,13 +2,11 @@
 use Rattle.std.specs.Prelude.{ℕ, ◌-◌, nat_eq, nat_lt, nat_le, ℤ, pos, Bool, true, false, ◌||◌, ◌&&◌, Option, Some, None, is_some, if◌then◌else◌}
 use Rattle.guest_code.specs.declared.program.Instruction.{Instruction}
 use Rattle.guest_code.specs.declared.program.Instruction.TheVariants.{Store, Add, Cas, Assert, SkipIfZero, Skip}
-use Rattle.semantics.specs.declared.state.Stop.{Stop}
+use Rattle.semantics.specs.{Expressions.{is_zero, one_or_zero}, declared.state.Stop.Stop}
 use Rattle.semantics.specs.declared.state.Stop.TheVariants.{Assert as FailedAssert}
-use Rattle.semantics.specs.Expressions.{is_zero, one_or_zero}
 use Rattle.replay.specs.declared.run.Act.TheVariants.{Load as Loads, Add as Adds, Cas as Swaps}
 use Rattle.check_lint.specs.Uses.{is, local_set, variable_read, variable_used, reads as reads_local}
-use Rattle.explain_cause.specs.declared.event.Deed.{Deed}
-use Rattle.explain_cause.specs.declared.event.Deed.TheVariants.{Stepped, Ran, Blocked}
+use Rattle.explain_cause.specs.declared.event.Deed.{Deed, TheVariants.{Stepped, Ran, Blocked}}
 use Rattle.explain_cause.specs.declared.event.Event.{Event}
 
 -- the variable that a statement writes, where this happens: a `cas` that misses writes none

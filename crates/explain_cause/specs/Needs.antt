@@ -2,12 +2,10 @@
 -- run and, with each event, those before it that it needs.
 use Rattle.std.specs.Prelude.{◌≡◌, ◌≢◌, ◌⊎◌, ℕ, ◌+◌, ◌<◌, ◌↔◌, Bool, true, false, List, length, slice_index_or}
 use Rattle.guest_code.specs.Program.{Program, code_of}
-use Rattle.explain_cause.specs.declared.event.Event.{Event}
+use Rattle.explain_cause.specs.{Asked.asks_for, Causes.{event_at, NoneOf}}
 use Rattle.explain_cause.specs.Events.{is_end, reads, writes, is_use, sets_local, uses_local}
-use Rattle.explain_cause.specs.Asked.{asks_for}
+use Rattle.explain_cause.specs.{Tests.{merge_point, passes_write}, declared.event.Event.Event}
 use Rattle.check_lint.specs.Paths.{is_test}
-use Rattle.explain_cause.specs.Tests.{merge_point, passes_write}
-use Rattle.explain_cause.specs.Causes.{event_at, NoneOf}
 
 -- the event at place j reads a variable that the one at place k wrote last
 pub record ReadsFrom (events : List Event) (j k : ℕ) : Type 0 where

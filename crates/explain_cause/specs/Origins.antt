@@ -3,14 +3,11 @@ use Rattle.std.specs.Prelude.{◌≡◌, ℕ, ◌+◌, ◌<◌, nat_eq, Bool, tr
 use Rattle.std.specs.List.{count_by}
 use Rattle.replay.specs.declared.run.Act.TheVariants.{Lock, Unlock, Wait, Retake}
 use Rattle.explain_run.specs.declared.step.Step.{Step}
-use Rattle.explain_cause.specs.declared.event.Deed.{Deed}
-use Rattle.explain_cause.specs.declared.event.Deed.TheVariants.{Stepped}
-use Rattle.explain_cause.specs.declared.event.Event.{Event}
-use Rattle.explain_cause.specs.declared.failure.Failure.{Failure}
-use Rattle.explain_cause.specs.declared.origins.EventRole.{EventRole}
-use Rattle.explain_cause.specs.declared.origins.EventRole.TheVariants.{Setter, Writer, Jumper, OwnerChanger}
-use Rattle.explain_cause.specs.Events.{stop_by, sets_local, writes, is_jump_over}
 use Rattle.explain_cause.specs.Causes.{event_at, NoneOf}
+use Rattle.explain_cause.specs.Events.{stop_by, sets_local, writes, is_jump_over}
+use Rattle.explain_cause.specs.declared.event.{Deed.Deed, Deed.TheVariants.Stepped, Event.Event}
+use Rattle.explain_cause.specs.declared.{failure.Failure.Failure, origins.EventRole.EventRole}
+use Rattle.explain_cause.specs.declared.origins.EventRole.TheVariants.{Setter, Writer, Jumper, OwnerChanger}
 
 -- place k is the last one before `at` whose event is so
 pub record IsLastBefore (events : List Event) (so : Event → Bool) (at k : ℕ) : Type 0 where

@@ -1,13 +1,11 @@
 -- What a test passes over, and how far that leads. All jumps go forwards.
 use Rattle.std.specs.Prelude.{ℕ, ◌+◌, max, nat_lt, Bool, ◌&&◌, List, [], ◌∷◌, drop, take, length, if◌then◌else◌}
 use Rattle.std.specs.List.{list_any}
-use Rattle.guest_code.specs.declared.program.Instruction.{Instruction}
 use Rattle.guest_code.specs.Program.{Program, code_of, skip_of}
+use Rattle.guest_code.specs.declared.program.Instruction.{Instruction}
+use Rattle.check_lint.specs.{Paths.is_test, Uses.does}
 use Rattle.check_lint.specs.declared.uses.Use.TheVariants as uses
-use Rattle.check_lint.specs.Uses.{does}
-use Rattle.check_lint.specs.Paths.{is_test}
-use Rattle.explain_cause.specs.declared.event.Event.{Event}
-use Rattle.explain_cause.specs.Events.{jump_by}
+use Rattle.explain_cause.specs.{Events.jump_by, declared.event.Event.Event}
 
 -- the number of the first instruction after all that is passed over, where that is up to here
 -- `reach`, and these instructions follow, the first of number `at`: a jump among what is passed

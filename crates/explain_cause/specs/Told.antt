@@ -2,11 +2,8 @@
 use Rattle.std.specs.Prelude.{◌≡◌, length, MatchOption}
 use Rattle.guest_code.specs.Program.{Program}
 use Rattle.explain_run.specs.declared.explanation.Explanation.{Explanation}
-use Rattle.explain_cause.specs.declared.causes.Causes.{Causes}
-use Rattle.explain_cause.specs.Course.{course}
-use Rattle.explain_cause.specs.Causes.{AreStepMarks, NoneOf}
-use Rattle.explain_cause.specs.Needs.{AreMarks}
-use Rattle.explain_cause.specs.Origins.{IsFailure, stops}
+use Rattle.explain_cause.specs.{Causes.{AreStepMarks, NoneOf}, Course.course, Needs.AreMarks}
+use Rattle.explain_cause.specs.{Origins.{IsFailure, stops}, declared.causes.Causes.Causes}
 
 -- of a run that is explained so: what happened, what of it is in the cause, in which steps, and
 -- where the run failed. Where another program is explained so, `course` takes its steps for those at

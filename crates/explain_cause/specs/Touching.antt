@@ -1,12 +1,9 @@
 -- What one event of a run has to do with a later one, at the most.
 use Rattle.std.specs.Prelude.{ℕ, nat_eq, Bool, false, ◌||◌, ◌&&◌, Option, Some, None}
 use Rattle.guest_code.specs.Program.{Program}
-use Rattle.explain_cause.specs.declared.event.Event.{Event}
-use Rattle.check_lint.specs.Uses.{is, local_set, variable_read, variable_used}
-use Rattle.check_lint.specs.Paths.{is_test}
-use Rattle.explain_cause.specs.Events.{is_end, uses_local, written_by}
-use Rattle.explain_cause.specs.Asked.{asks_for}
-use Rattle.explain_cause.specs.Tests.{passes_write}
+use Rattle.explain_cause.specs.{Asked.asks_for, Events.{is_end, uses_local, written_by}}
+use Rattle.explain_cause.specs.{Tests.passes_write, declared.event.Event.Event}
+use Rattle.check_lint.specs.{Paths.is_test, Uses.{is, local_set, variable_read, variable_used}}
 
 -- an event reads or writes this variable, if it is one
 abbrev pub uses_variable : Option ℕ → Event → Bool

@@ -2,16 +2,15 @@
 
 ghost use Rattle.std.specs.Prelude.{◌≡◌, ℕ, ◌<◌, ◌+◌, ◌-◌, ◌^◌, ◌||◌, ◌&&◌, not, false, [], All, IfSome, OnOk, Option, None, slice_index_or, if◌then◌else◌};
 ghost use Rattle.std.specs.List.{list_any};
-ghost use Rattle.guest_code.specs.declared.limits.TheConstants.{THREADS, LOCALS, VARIABLES};
 ghost use Rattle.guest_code.specs.Program.{Program};
-ghost use Rattle.check_lint.specs.Uses.{is, local_set, reads as uses_value, variable_used};
-ghost use Rattle.explain_cause.specs.Events.{reads, writes};
-ghost use Rattle.explain_cause.specs.Asked.{asks_for};
+ghost use Rattle.guest_code.specs.declared.limits.TheConstants.{THREADS, LOCALS, VARIABLES};
 ghost use Rattle.check_lint.specs.Paths.{is_test};
-ghost use Rattle.explain_cause.specs.Tests.{merge_point};
+ghost use Rattle.check_lint.specs.Uses.{is, local_set, reads as uses_value, variable_used};
+ghost use Rattle.explain_cause.specs.Asked.{asks_for};
 ghost use Rattle.explain_cause.specs.Causes.{any_below, ends_with, least_with, lesser};
-ghost use Rattle.explain_cause.specs.inner.Wanting.{IsValidEvent, IsWanted};
+ghost use Rattle.explain_cause.specs.{Events.{reads, writes}, Tests.merge_point};
 ghost use Rattle.explain_cause.specs.inner.Keeping.{IsMovedBefore, decides_by, found, is_missed_by_in, is_missed_in, needs, passes_in, passes_read_in};
+ghost use Rattle.explain_cause.specs.inner.Wanting.{IsValidEvent, IsWanted};
 
 use crate::decisions::{merge_point, passes_write};
 use crate::direct_cause::is_direct_cause;

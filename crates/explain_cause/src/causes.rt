@@ -1,9 +1,7 @@
 //! The events of a run, with marks on those that are the cause of how it ended.
 
 ghost use Rattle.std.specs.Prelude.{◌≡◌, ◌<◌, All, IfOk, length, slice_index_or, false, None, if◌then◌else◌};
-ghost use Rattle.explain_cause.specs.Causes.{AreStepMarks, event_at};
-ghost use Rattle.explain_cause.specs.Needs.{AreMarks};
-ghost use Rattle.explain_cause.specs.Told.{Tells};
+ghost use Rattle.explain_cause.specs.{Causes.{AreStepMarks, event_at}, Needs.AreMarks, Told.Tells};
 ghost use Rattle.explain_cause.specs.inner.Wanting.{IsValidEvent};
 
 use crate::backward_slice::BackwardSlice;

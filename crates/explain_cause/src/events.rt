@@ -2,15 +2,14 @@
 
 ghost use Rattle.std.specs.Prelude.{◌≡◌, ◌<◌, ◌+◌, ◌++◌, ◌∷◌, List, [], length, drop, IfOk, OnOk, slice_get, slice_set};
 ghost use Rattle.std.specs.List.{list_any};
+ghost use Rattle.guest_code.specs.Program.{Program, IsValid, IsValidCode};
 ghost use Rattle.guest_code.specs.declared.limits.TheConstants.{THREADS, LOCALS};
 ghost use Rattle.guest_code.specs.declared.program.Instruction.{Instruction};
-ghost use Rattle.guest_code.specs.Program.{Program, IsValid, IsValidCode};
 ghost use Rattle.semantics.specs.Ends.{is_stopped};
 ghost use Rattle.explain_run.specs.declared.step.Step.{Step};
 ghost use Rattle.explain_cause.specs.Course.{all_after, blocked_at, blocked_from, course, events_from, events_in, listed, local_events, locals_after, locals_with, opening_from, owner_for, row, stop_in_step, visible_event};
+ghost use Rattle.explain_cause.specs.{Events.value_by, inner.Running.{events_on, locals_on}};
 ghost use Rattle.check_lint.specs.Uses.{local_set};
-ghost use Rattle.explain_cause.specs.Events.{value_by};
-ghost use Rattle.explain_cause.specs.inner.Running.{events_on, locals_on};
 
 use crate::event::{Deed, Event};
 use explain_run::{Explanation, Holder, Step, ThreadState};

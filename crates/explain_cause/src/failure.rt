@@ -2,8 +2,7 @@
 
 ghost use Rattle.std.specs.Prelude.{◌≡◌, MatchOption, length, min};
 ghost use Rattle.std.specs.List.{count_by};
-ghost use Rattle.explain_cause.specs.Causes.{NoneOf};
-ghost use Rattle.explain_cause.specs.Origins.{IsFailure, steps_up_to, stops};
+ghost use Rattle.explain_cause.specs.{Causes.NoneOf, Origins.{IsFailure, steps_up_to, stops}};
 
 use crate::event::Event;
 use explain_run::Step;

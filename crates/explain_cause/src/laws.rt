@@ -4,11 +4,9 @@
 ghost use Rattle.std.specs.Prelude.{◌≡◌, ◌+◌, ◌<◌, ℕ, Some, false, length, slice_index_or, true};
 ghost use Rattle.guest_code.specs.Program.{Program};
 ghost use Rattle.explain_run.specs.declared.explanation.Explanation.{Explanation};
-ghost use Rattle.explain_cause.specs.declared.causes.Causes.{Causes};
 ghost use Rattle.explain_cause.specs.Causes.{NoneOf, event_at};
 ghost use Rattle.explain_cause.specs.Events.{is_end, sets_local, uses_local};
-ghost use Rattle.explain_cause.specs.Told.{Tells};
-ghost use Rattle.explain_cause.specs.Touching.{touches};
+ghost use Rattle.explain_cause.specs.{Told.Tells, Touching.touches, declared.causes.Causes.Causes};
 
 /// A step of a thread that set a local last before an assertion of the thread that tests the local
 /// and fails, or did so in the local run after it, is in the cause.

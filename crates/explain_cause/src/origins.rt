@@ -2,8 +2,7 @@
 //! jumped over.
 
 ghost use Rattle.std.specs.Prelude.{◌≡◌, ℕ, MatchOption, length};
-ghost use Rattle.explain_cause.specs.Events.{is_jump_over, sets_local, writes};
-ghost use Rattle.explain_cause.specs.Causes.{NoneOf};
+ghost use Rattle.explain_cause.specs.{Causes.NoneOf, Events.{is_jump_over, sets_local, writes}};
 ghost use Rattle.explain_cause.specs.Origins.{IsLastBefore, IsTakenAt, gives_by, has_role, moves, takes_by};
 
 use crate::causes::Causes;

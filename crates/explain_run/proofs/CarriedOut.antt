@@ -1,21 +1,15 @@
 -- A schedule that is carried out up to a place, and what is told of its steps.
 use Rattle.std.proofs.Common.{length-append, ◌≡◌, ℕ, zero, suc, ◌+◌, ◌<◌, true, List, [], ◌∷◌, ◌++◌, length, take, map, replicate, get_or, Option, Some, None, refl, ap, ◌∙◌, sym, subst, inl, inr, arith}
-use Rattle.std.specs.List.{slice_get}
-use Rattle.std.proofs.lemmas.List.{map-append, length-replicate}
+use Rattle.std.{specs.List.slice_get, proofs.lemmas.List.{map-append, length-replicate}}
 use Rattle.guest_code.specs.Program.{Program, IsWellFormed}
 use Rattle.semantics.specs.Machine.{Snapshot, is_enabled, owner_of}
 use Rattle.semantics_schedules.specs.Execution.{ExecutionView, IsExecutionOf, Reaches}
-use Rattle.replay.specs.declared.run.Line.{Line}
-use Rattle.replay.specs.Run.{number_at}
+use Rattle.replay.specs.{Run.number_at, declared.run.Line.Line}
 use Rattle.replay.proofs.LinesOfSteps.{IsToldUpTo, told_none, told_more}
-use Rattle.explain_run.specs.declared.step.Step.{Step}
-use Rattle.explain_run.specs.declared.explanation.Holder.{Holder}
-use Rattle.explain_run.specs.Steps.{Tells, IsTakenStep}
-use Rattle.explain_run.specs.Holders.{IsHeldBy}
-use Rattle.explain_run.specs.Explains.{carried_out, TellsHolders}
-use Rattle.explain_run.specs.inner.Carrying.{AreHoldersAfter}
-use Rattle.explain_run.proofs.Pushed.{pushed_at}
-use Rattle.explain_run.proofs.HeldOn.{held_on, held_by_none}
+use Rattle.explain_run.specs.{Explains.{carried_out, TellsHolders}, Holders.IsHeldBy}
+use Rattle.explain_run.specs.{Steps.{Tells, IsTakenStep}, declared.explanation.Holder.Holder}
+use Rattle.explain_run.specs.{declared.step.Step.Step, inner.Carrying.AreHoldersAfter}
+use Rattle.explain_run.proofs.{HeldOn.{held_on, held_by_none}, Pushed.pushed_at}
 
 abbrev pub line_in : Step → Line
 line_in told = told.line

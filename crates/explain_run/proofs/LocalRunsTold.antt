@@ -1,17 +1,12 @@
 -- What a local run sets, one instruction after the other.
 use Rattle.std.proofs.Common.{◌≡◌, ℕ, zero, suc, ◌+◌, ◌<◌, ℤ, pos, min, true, false, cond, List, [], ◌∷◌, ◌++◌, length, drop, get_or, set, get_or-set_same, refl, ap, ◌∙◌, sym, arith}
-use Rattle.std.proofs.lemmas.List.{drop-drop}
-use Rattle.std.proofs.Math.Seq.{drop-cons}
-use Rattle.guest_code.specs.Program.{LocalsBelow}
-use Rattle.guest_code.specs.declared.program.Instruction.{Instruction}
+use Rattle.std.proofs.{Math.Seq.drop-cons, lemmas.List.drop-drop}
+use Rattle.guest_code.specs.{Program.LocalsBelow, declared.program.Instruction.Instruction}
 use Rattle.guest_code.specs.declared.program.Instruction.TheVariants.{Set, Assert, SkipIfZero, Skip}
-use Rattle.semantics.specs.declared.local.Turn.{Turn}
-use Rattle.semantics.specs.declared.local.Turn.TheVariants.{Runs, Fails}
-use Rattle.semantics.specs.Machine.{value_of_expression, is_zero}
-use Rattle.semantics.specs.Turns.{turn_of, locals_after}
+use Rattle.semantics.specs.{Machine.{value_of_expression, is_zero}, Turns.{turn_of, locals_after}}
+use Rattle.semantics.specs.declared.local.Turn.{Turn, TheVariants.{Runs, Fails}}
 use Rattle.semantics.proofs.LocalRuns.{after_first}
-use Rattle.explain_run.specs.declared.assignments.Assignment.{Assignment}
-use Rattle.explain_run.specs.Settings.{settings_in}
+use Rattle.explain_run.specs.{Settings.settings_in, declared.assignments.Assignment.Assignment}
 use Rattle.explain_run.specs.inner.Runs.{set_at}
 
 -- what is set after the instruction of which this came

@@ -1,8 +1,7 @@
 -- The elements of a list to which one more was added.
-use Rattle.std.proofs.Common.{◌≤◌, take, drop, append-nil, length-append, get_or, Option, ◌∙◌, ◌≡◌, ◌⊎◌, ℕ, zero, suc, ◌+◌, List, [], ◌∷◌, ◌++◌, length, Some, None, refl, ap, inl, inr, arith}
 use Rattle.std.specs.Prelude.{unwrap_or}
-use Rattle.std.specs.List.{slice_get}
-use Rattle.std.proofs.lemmas.List.{take_all}
+use Rattle.std.proofs.Common.{◌≤◌, take, drop, append-nil, length-append, get_or, Option, ◌∙◌, ◌≡◌, ◌⊎◌, ℕ, zero, suc, ◌+◌, List, [], ◌∷◌, ◌++◌, length, Some, None, refl, ap, inl, inr, arith}
+use Rattle.std.{specs.List.slice_get, proofs.lemmas.List.take_all}
 
 -- each is one of those before, or the new one
 pub pushed_at : {A : Type 0} → (xs : List A) (x : A) (k : ℕ) (y : A) →

@@ -1,7 +1,6 @@
 -- The first elements of a queue, one after the other.
 use Rattle.std.proofs.Common.{◌≡◌, ℕ, zero, suc, ◌+◌, ◌<◌, ◌≤◌, List, [], ◌∷◌, ◌++◌, length, take, Some, None, ap, ◌∙◌, sym, arith}
-use Rattle.std.specs.List.{slice_get}
-use Rattle.std.proofs.lemmas.List.{take_more, take_all}
+use Rattle.std.{specs.List.slice_get, proofs.lemmas.List.{take_more, take_all}}
 use Rattle.std.proofs.lemmas.Option.{slice_get_within, get_or_from_slice_get}
 
 pub taken_more : (q old new : List ℕ) (k t : ℕ) → old ≡ take k q → slice_get q k ≡ Some t →

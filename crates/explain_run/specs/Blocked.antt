@@ -1,18 +1,17 @@
 -- Why a thread can't take a step: the definition of an enabled thread turned round.
 use Rattle.std.specs.Prelude.{◌≡◌, ◌≢◌, ◌⊎◌, ℕ, nat_eq, Bool, true, false, Option, Some, None}
-use Rattle.guest_code.specs.declared.program.Instruction.{Instruction}
+use Rattle.guest_code.specs.{Program.Program, declared.program.Instruction.Instruction}
 use Rattle.guest_code.specs.declared.program.Instruction.TheVariants as instructions
-use Rattle.guest_code.specs.Program.{Program}
-use Rattle.semantics.specs.declared.state.Status.TheVariants.{Waiting}
+use Rattle.semantics.specs.Machine.{Snapshot, thread_at, next_of, owner_of, count_of, is_enabled}
 use Rattle.semantics.specs.declared.state.Action.TheVariants.{OnMutex, OnSemaphore}
 use Rattle.semantics.specs.declared.state.MutexAction.TheVariants.{Lock as Locks, Retake as Retakes}
 use Rattle.semantics.specs.declared.state.SemaphoreAction.TheVariants.{Acquire as Acquires}
-use Rattle.semantics.specs.Machine.{Snapshot, thread_at, next_of, owner_of, count_of, is_enabled}
+use Rattle.semantics.specs.declared.state.Status.TheVariants.{Waiting}
+use Rattle.explain_run.specs.declared.object.Object.{Object}
+use Rattle.explain_run.specs.declared.object.Object.TheVariants.{Mutex, Condition, Semaphore}
 use Rattle.explain_run.specs.declared.thread_state.Reason.{Reason}
 use Rattle.explain_run.specs.declared.thread_state.Reason.TheVariants.{Lock, Retake, Acquire, Signal}
 use Rattle.explain_run.specs.declared.thread_state.ThreadState.{ThreadState}
-use Rattle.explain_run.specs.declared.object.Object.{Object}
-use Rattle.explain_run.specs.declared.object.Object.TheVariants.{Mutex, Condition, Semaphore}
 
 -- the mutex that a thread waits for by this reason
 abbrev pub mutex_of : Reason → Option ℕ

@@ -1,21 +1,14 @@
 -- What is told of a schedule.
 use Rattle.std.specs.Prelude.{◌≡◌, ℕ, pos, ◌<◌, ◌≤◌, true, List, length, replicate, take, Option, Some, None, slice_get, slice_index_or}
-use Rattle.guest_code.specs.declared.limits.TheConstants.{LOCALS}
-use Rattle.guest_code.specs.Program.{Program, code_of}
-use Rattle.semantics.specs.Machine.{Snapshot, start, thread_at}
-use Rattle.semantics_schedules.specs.Schedules.{state_after, runs, preemptions, last_of}
-use Rattle.semantics.specs.Ends.{kind_of, stop_of}
+use Rattle.guest_code.specs.{Program.{Program, code_of}, declared.limits.TheConstants.LOCALS}
+use Rattle.semantics.specs.{Ends.{kind_of, stop_of}, Machine.{Snapshot, start, thread_at}}
 use Rattle.semantics_schedules.specs.Execution.{ExecutionView}
+use Rattle.semantics_schedules.specs.Schedules.{state_after, runs, preemptions, last_of}
 use Rattle.replay.specs.Run.{lines_from, number_at, state_before, IsFirstBad}
-use Rattle.explain_run.specs.declared.explanation.Explanation.{Explanation}
-use Rattle.explain_run.specs.declared.explanation.Start.{Start}
-use Rattle.explain_run.specs.declared.thread_state.ThreadState.{ThreadState}
-use Rattle.explain_run.specs.declared.explanation.Holder.{Holder}
-use Rattle.explain_run.specs.declared.step.Step.{Step}
-use Rattle.explain_run.specs.Steps.{Tells, lines_of}
-use Rattle.explain_run.specs.Settings.{settings_in}
-use Rattle.explain_run.specs.Blocked.{Stands}
-use Rattle.explain_run.specs.Holders.{IsHeldBy}
+use Rattle.explain_run.specs.{Blocked.Stands, Holders.IsHeldBy, Settings.settings_in}
+use Rattle.explain_run.specs.{Steps.{Tells, lines_of}, declared.explanation.Explanation.Explanation}
+use Rattle.explain_run.specs.declared.explanation.{Holder.Holder, Start.Start}
+use Rattle.explain_run.specs.declared.{step.Step.Step, thread_state.ThreadState.ThreadState}
 
 -- a schedule that was carried out up to a place
 abbrev pub carried_out : Program → List ℕ → ℕ → ExecutionView

@@ -1,17 +1,13 @@
 -- What is told of a step.
 use Rattle.std.specs.Prelude.{◌≡◌, ℕ, List, [], ◌∷◌, length, filter, map, Some}
 use Rattle.guest_code.specs.Program.{Program, code_of}
-use Rattle.semantics.specs.declared.state.Action.{Action}
-use Rattle.semantics.specs.declared.state.Action.TheVariants.{OnVariable, OnMutex, Wait as Waits, OnCondition, OnSemaphore}
 use Rattle.semantics.specs.Machine.{Snapshot, thread_at, next_of, owner_of, queue_of, owns, threads_to_wake, step}
-use Rattle.semantics.specs.Work.{up_from}
+use Rattle.semantics.specs.{Work.up_from, declared.state.Action.Action}
+use Rattle.semantics.specs.declared.state.Action.TheVariants.{OnVariable, OnMutex, Wait as Waits, OnCondition, OnSemaphore}
 use Rattle.semantics_schedules.specs.Execution.{ExecutionView, IsExecutionOf, stepped}
-use Rattle.replay.specs.declared.run.Line.{Line}
-use Rattle.replay.specs.Run.{line_at}
-use Rattle.replay.specs.Trace.{IsValidLine}
+use Rattle.replay.specs.{Run.line_at, Trace.IsValidLine, declared.run.Line.Line}
+use Rattle.explain_run.specs.{Objects.{object_of, reading_of}, Settings.settings_by}
 use Rattle.explain_run.specs.declared.step.Step.{Step}
-use Rattle.explain_run.specs.Objects.{object_of, reading_of}
-use Rattle.explain_run.specs.Settings.{settings_by}
 
 -- the lines of steps
 abbrev pub lines_of : List Step → List Line

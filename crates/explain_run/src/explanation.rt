@@ -2,8 +2,7 @@
 
 ghost use Rattle.std.specs.Prelude.{◌≡◌, ◌<◌, length, Option, Some, None, IfOk, take, slice_get, slice_index_or};
 ghost use Rattle.std.specs.Option.{option_copied};
-ghost use Rattle.semantics.specs.Machine.{is_enabled};
-ghost use Rattle.semantics.specs.Reachable.{IsOf};
+ghost use Rattle.semantics.specs.{Machine.is_enabled, Reachable.IsOf};
 ghost use Rattle.explain_run.specs.Blocked.{reason_of};
 ghost use Rattle.explain_run.specs.Explains.{Explains, TellsOpening, TellsThreads};
 ghost use Rattle.explain_run.specs.inner.Carrying.{IsCarriedOut, AreHoldersAfter, holder_after};

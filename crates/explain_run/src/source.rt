@@ -1,8 +1,7 @@
 //! The names and places that an explanation is told with: a guest's file, text and program.
 
 ghost use Rattle.std.specs.Prelude.{◌≡◌, ℕ, length};
-ghost use Rattle.guest_code.specs.Program.{thread_at};
-ghost use Rattle.guest_code.specs.SourceMap.{places_of, locals_of};
+ghost use Rattle.guest_code.specs.{Program.thread_at, SourceMap.{places_of, locals_of}};
 
 use crate::object::Object;
 use guest_code::program::{Instruction, Program};

@@ -2,8 +2,7 @@
 
 ghost use Rattle.std.specs.Prelude.{◌≡◌, ◌<◌, ◌+◌, ◌^◌, IfOk, IsTrue, length, take};
 ghost use Rattle.guest_code.specs.Program.{Program};
-ghost use Rattle.semantics.specs.Machine.{is_enabled, queue_of};
-ghost use Rattle.semantics.specs.Reachable.{IsOf, IsValidAction};
+ghost use Rattle.semantics.specs.{Machine.{is_enabled, queue_of}, Reachable.{IsOf, IsValidAction}};
 ghost use Rattle.semantics_schedules.specs.Execution.{IsExecutionOf};
 ghost use Rattle.explain_run.specs.Steps.{IsTakenStep, held_in, woken_in};
 

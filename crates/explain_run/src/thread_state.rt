@@ -1,8 +1,7 @@
 //! Where one thread is in a state, and what it waits for where it is blocked.
 
 ghost use Rattle.std.specs.Prelude.{◌≡◌, ◌<◌, length, MatchOption, Some};
-ghost use Rattle.semantics.specs.Reachable.{IsOf};
-ghost use Rattle.semantics.specs.Ends.{is_stopped};
+ghost use Rattle.semantics.specs.{Ends.is_stopped, Reachable.IsOf};
 ghost use Rattle.explain_run.specs.Blocked.{IsBlockedBy, IsUnblocked, Stands, could_end, gives_back, mutex_of, waited_for};
 
 use crate::object::Object;

@@ -1,22 +1,16 @@
 -- The circles of those that are the first of theirs are all circles.
-use Rattle.std.proofs.Common.{◌≡◌, ◌∙◌, ℕ, zero, suc, ◌+◌, ◌<◌, ◌⊎◌, inl, inr, Bool, true, false, cond, List, [], ◌∷◌, length, map, arith, sym, subst, ap, refl}
 use Rattle.std.specs.Prelude.{◌↔◌, ◌&&◌, not, IsTrue, All, Any, Contains, is_some}
-use Rattle.std.specs.List.{filter}
+use Rattle.std.proofs.Common.{◌≡◌, ◌∙◌, ℕ, zero, suc, ◌+◌, ◌<◌, ◌⊎◌, inl, inr, Bool, true, false, cond, List, [], ◌∷◌, length, map, arith, sym, subst, ap, refl}
+use Rattle.std.{specs.List.filter, proofs.Math.Bool.and-false}
 use Rattle.std.proofs.lemmas.Bool.{cases_Bool, and_parts, and_from, not_from_false, cases_eq, false_from_ne_true, both_ways}
-use Rattle.std.proofs.Math.Bool.{and-false}
 use Rattle.std.proofs.lemmas.List.Elements.{All-nil, All-cons, All-head, All-tail}
 use Rattle.guest_code.specs.Program.{Program}
-use Rattle.semantics.specs.declared.mask.Mask.{Mask}
-use Rattle.semantics.specs.Mask.{has}
-use Rattle.semantics.specs.Waiters.{In}
-use Rattle.semantics.specs.Work.{up_from}
+use Rattle.semantics.specs.{Mask.has, Waiters.In, Work.up_from, declared.mask.Mask.Mask}
 use Rattle.semantics.proofs.ListMembers.{in_up_from}
 use Rattle.explain_run.specs.declared.explanation.Explanation.{Explanation}
-use Rattle.explain_waits.specs.declared.fate.Fate.{Fate}
-use Rattle.explain_waits.specs.declared.wait.Wait.{Wait}
-use Rattle.explain_waits.specs.Endings.{blocked_of}
-use Rattle.explain_waits.specs.Graph.{WaitsFor, Leads, edge, on, AreInCircle}
+use Rattle.explain_waits.specs.{Endings.blocked_of, Graph.{WaitsFor, Leads, edge, on, AreInCircle}}
 use Rattle.explain_waits.specs.Waiting.{TellsWait, TellsCircles, IsCircle, blocked_threads, circles_in, has_none_below, is_first_of}
+use Rattle.explain_waits.specs.declared.{fate.Fate.Fate, wait.Wait.Wait}
 
 -- members of lists
 

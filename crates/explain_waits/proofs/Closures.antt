@@ -1,9 +1,8 @@
 -- The closure of a relation of the threads, one inner thread after the other.
-use Rattle.std.proofs.Common.{◌≡◌, ◌∙◌, ℕ, ◌+◌, ◌<◌, ◌⊎◌, inl, inr, List, arith, sym, subst}
 use Rattle.std.specs.Prelude.{◌↔◌, ◌&&◌}
+use Rattle.std.proofs.Common.{◌≡◌, ◌∙◌, ℕ, ◌+◌, ◌<◌, ◌⊎◌, inl, inr, List, arith, sym, subst}
 use Rattle.std.proofs.lemmas.Bool.{cases_lt, or_cases, or_left, or_right, and_parts, and_from}
-use Rattle.semantics.specs.declared.mask.Mask.{Mask}
-use Rattle.semantics.specs.Mask.{has}
+use Rattle.semantics.specs.{Mask.has, declared.mask.Mask.Mask}
 use Rattle.explain_waits.specs.Graph.{Leads, edge, on, AreInCircle, row, IsIn}
 use Rattle.explain_waits.specs.inner.Rows.{IsExtendedThrough}
 

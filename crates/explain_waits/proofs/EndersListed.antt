@@ -1,16 +1,12 @@
 -- The statements that could end a wait, one instruction after the other.
 use Rattle.std.proofs.Common.{◌≡◌, ◌∙◌, ℕ, ◌+◌, ◌<◌, Bool, true, false, List, [], ◌∷◌, ◌++◌, length, map, sym, ap, refl, get_or, arith, append_assoc}
-use Rattle.std.specs.List.{filter}
-use Rattle.std.proofs.lemmas.List.{map_push, get_or_default}
-use Rattle.guest_code.specs.declared.program.Instruction.{Instruction}
-use Rattle.guest_code.specs.declared.program.Instruction.TheVariants.{Skip}
+use Rattle.std.{specs.List.filter, proofs.lemmas.List.{map_push, get_or_default}}
+use Rattle.guest_code.specs.declared.program.Instruction.{Instruction, TheVariants.Skip}
 use Rattle.semantics.specs.Work.{up_from}
 use Rattle.replay.proofs.LinesOfSteps.{passed_more, passed_same}
-use Rattle.explain_waits.specs.declared.ending.Blocked.{Blocked}
-use Rattle.explain_waits.specs.declared.ending.Statement.{Statement}
-use Rattle.explain_waits.specs.declared.fate.Fate.{Fate}
+use Rattle.explain_waits.specs.{Endings.could_end, declared.ending.Blocked.Blocked}
+use Rattle.explain_waits.specs.declared.{ending.Statement.Statement, fate.Fate.Fate}
 use Rattle.explain_waits.specs.declared.fate.Fate.TheVariants.{OutOfReach}
-use Rattle.explain_waits.specs.Endings.{could_end}
 
 abbrev pub statement : ℕ → ℕ → Fate → Statement
 statement u i fate = record { thread = u; instruction = i; fate = fate }

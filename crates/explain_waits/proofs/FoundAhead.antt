@@ -1,25 +1,17 @@
 -- What is found by the fates is what is so.
-use Rattle.std.proofs.Common.{◌≡◌, ◌∙◌, ℕ, ◌<◌, ◌⊎◌, inl, inr, true, false, List, [], length, Some, sym, subst, ap, get_or}
 use Rattle.std.specs.Prelude.{◌↔◌, IsTrue}
-use Rattle.std.proofs.Common.{Vec, Global}
-use Rattle.std.proofs.lemmas.List.{get_or-map}
-use Rattle.std.proofs.lemmas.Option.{same_Some}
-use Rattle.guest_code.specs.declared.program.Instruction.{Instruction}
+use Rattle.std.proofs.Common.{◌≡◌, ◌∙◌, ℕ, ◌<◌, ◌⊎◌, inl, inr, true, false, List, [], length, Some, sym, subst, ap, get_or, Vec, Global}
+use Rattle.std.proofs.lemmas.{List.get_or-map, Option.same_Some}
+use Rattle.guest_code.specs.{Program.{Program, code_of}, declared.program.Instruction.Instruction}
 use Rattle.guest_code.specs.declared.program.Instruction.TheVariants.{Skip}
-use Rattle.guest_code.specs.Program.{Program, code_of}
 use Rattle.explain_run.specs.declared.explanation.Explanation.{Explanation}
-use Rattle.explain_waits.specs.declared.ending.Blocked.{Blocked}
-use Rattle.explain_waits.specs.declared.fate.Fate.{Fate}
-use Rattle.explain_waits.specs.declared.fate.Fate.TheVariants.{OutOfReach}
-use Rattle.explain_waits.specs.declared.look.Look.{Look}
-use Rattle.explain_waits.specs.Fates.{Fates, HasFate, is_to_come, locals_of, place_of}
-use Rattle.explain_waits.specs.Looks.{IsLookOf}
 use Rattle.explain_waits.specs.Endings.{ChangesBefore, HasAhead, blocked_of, writes_one}
-use Rattle.explain_waits.specs.Graph.{WaitsFor}
-use Rattle.explain_waits.specs.Waiting.{AllFates}
+use Rattle.explain_waits.specs.Fates.{Fates, HasFate, is_to_come, locals_of, place_of}
+use Rattle.explain_waits.specs.{Graph.WaitsFor, Looks.IsLookOf, Waiting.AllFates}
+use Rattle.explain_waits.specs.declared.{ending.Blocked.Blocked, fate.Fate.Fate}
+use Rattle.explain_waits.specs.declared.{fate.Fate.TheVariants.OutOfReach, look.Look.Look}
 use Rattle.explain_waits.specs.inner.Rows.{FindsAhead, FindsEdge, FindsHelp, lists}
-use Rattle.explain_waits.proofs.TakenSteps.{is_ahead, to_come}
-use Rattle.explain_waits.proofs.LooksOnce.{looks_alike}
+use Rattle.explain_waits.proofs.{LooksOnce.looks_alike, TakenSteps.{is_ahead, to_come}}
 
 ahead_is : (p : Program) (told : Explanation) (fates : List Fate) (u i : ℕ) (fate : Fate)
     → Fates p told u fates → i < length (code_of p u) → HasFate p told u i fate

@@ -1,14 +1,10 @@
 -- What helps, one instruction after the other.
-use Rattle.std.proofs.Common.{◌≡◌, ◌∙◌, ℕ, ◌+◌, ◌<◌, inl, inr, Bool, true, false, List, length, arith, sym, subst, ap, refl, get_or}
 use Rattle.std.specs.Prelude.{◌↔◌, ◌||◌, ◌&&◌, not, IsTrue}
+use Rattle.std.proofs.Common.{◌≡◌, ◌∙◌, ℕ, ◌+◌, ◌<◌, inl, inr, Bool, true, false, List, length, arith, sym, subst, ap, refl, get_or}
 use Rattle.std.proofs.lemmas.Bool.{cases_lt, or_cases, or_left, or_right, and_parts, and_from, both_ways}
-use Rattle.guest_code.specs.declared.program.Instruction.{Instruction}
-use Rattle.guest_code.specs.declared.program.Instruction.TheVariants.{Skip}
-use Rattle.explain_waits.specs.declared.fate.Fate.{Fate}
-use Rattle.explain_waits.specs.declared.fate.Fate.TheVariants.{OutOfReach}
-use Rattle.explain_waits.specs.declared.look.Look.{Look}
-use Rattle.explain_waits.specs.Fates.{is_to_come}
-use Rattle.explain_waits.specs.Endings.{writes_one}
+use Rattle.guest_code.specs.declared.program.Instruction.{Instruction, TheVariants.Skip}
+use Rattle.explain_waits.specs.{Endings.writes_one, Fates.is_to_come, declared.fate.Fate.Fate}
+use Rattle.explain_waits.specs.declared.{fate.Fate.TheVariants.OutOfReach, look.Look.Look}
 use Rattle.explain_waits.specs.inner.Rows.{FindsChange, FindsHelp}
 
 not_true : (b : Bool) → not b ≡ true → b ≡ false

@@ -1,17 +1,14 @@
 -- A thread looks in one way.
 use Rattle.std.proofs.Common.{◌≡◌, ◌∙◌, ℕ, ◌+◌, ℤ, pos, Option, Some, None, List, [], ◌∷◌, ◌++◌, set, sym, subst, ap, refl, get_or, append_assoc}
-use Rattle.std.specs.List.{slice_get}
-use Rattle.std.proofs.lemmas.Option.{same_Some}
-use Rattle.guest_code.specs.declared.program.Instruction.{Instruction}
-use Rattle.guest_code.specs.Program.{Program, code_of}
+use Rattle.std.{specs.List.slice_get, proofs.lemmas.Option.same_Some}
+use Rattle.guest_code.specs.{Program.{Program, code_of}, declared.program.Instruction.Instruction}
 use Rattle.semantics.specs.declared.state.Thread.{Thread}
 use Rattle.explain_run.specs.declared.explanation.Explanation.{Explanation}
 use Rattle.explain_run.specs.declared.thread_state.Reason.{Reason}
 use Rattle.explain_run.specs.declared.thread_state.Reason.TheVariants.{Lock, Retake, Acquire, Signal}
-use Rattle.explain_waits.specs.declared.ending.Blocked.{Blocked}
-use Rattle.explain_waits.specs.declared.look.Look.{Look}
-use Rattle.explain_waits.specs.Looks.{LooksAt, done, loads, load_of, is_wait, resumed_at, IsLook, IsLookBy, IsLookOf, after_wait}
 use Rattle.explain_waits.specs.Fates.{locals_of}
+use Rattle.explain_waits.specs.Looks.{LooksAt, done, loads, load_of, is_wait, resumed_at, IsLook, IsLookBy, IsLookOf, after_wait}
+use Rattle.explain_waits.specs.declared.{ending.Blocked.Blocked, look.Look.Look}
 
 not_both : (load : Option (ℕ × ℕ)) (r x : ℕ) → load ≡ None → load ≡ Some (r, x) → ⊥
 not_both load r x none some = absurd cc

@@ -1,11 +1,9 @@
 -- Sets of threads, for each thread, and owners.
-use Rattle.std.proofs.Common.{◌≡◌, ◌≢◌, ◌∙◌, ℕ, ◌+◌, ◌<◌, inl, inr, Bool, true, false, List, length, Option, Some, None, arith, sym, subst, ap, refl, set, replicate}
 use Rattle.std.specs.Prelude.{◌↔◌, IsTrue}
+use Rattle.std.proofs.Common.{◌≡◌, ◌≢◌, ◌∙◌, ℕ, ◌+◌, ◌<◌, inl, inr, Bool, true, false, List, length, Option, Some, None, arith, sym, subst, ap, refl, set, replicate}
 use Rattle.std.proofs.lemmas.Bool.{cases_lt, cases_eq, both_ways, eqb-true, eq-eqb}
 use Rattle.std.proofs.lemmas.List.{get_or_past, get_or-replicate, length-replicate, get_or-set_same, get_or-set_other}
-use Rattle.semantics.specs.Machine.{owns}
-use Rattle.semantics.specs.declared.mask.Mask.{Mask}
-use Rattle.semantics.specs.Mask.{has, no_threads}
+use Rattle.semantics.specs.{Machine.owns, Mask.{has, no_threads}, declared.mask.Mask.Mask}
 use Rattle.semantics.proofs.Masks.{empty_has}
 use Rattle.explain_waits.specs.Graph.{row, IsIn}
 

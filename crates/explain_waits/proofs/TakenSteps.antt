@@ -1,16 +1,13 @@
 -- What came of the instructions of a thread, one step after the other.
 use Rattle.std.proofs.Common.{◌≡◌, ◌≢◌, ◌∙◌, ℕ, ◌+◌, ◌<◌, inl, inr, ℤ, true, false, List, [], ◌∷◌, ◌++◌, length, Option, Some, arith, sym, subst, get_or, refl}
-use Rattle.std.specs.Option.{IsSomeAnd}
-use Rattle.std.specs.List.{slice_get}
+use Rattle.std.specs.{List.slice_get, Option.IsSomeAnd}
 use Rattle.std.proofs.lemmas.Bool.{cases_lt, cases_eq, both_ways}
 use Rattle.std.proofs.lemmas.List.{length-set, get_or_push, get_or_append_left, get_or-set_same, get_or-set_other}
-use Rattle.guest_code.specs.declared.program.Instruction.{Instruction}
-use Rattle.explain_run.specs.declared.step.Step.{Step}
+use Rattle.guest_code.specs.{Program.{Program, code_of}, declared.program.Instruction.Instruction}
+use Rattle.explain_run.specs.declared.{explanation.Explanation.Explanation, step.Step.Step}
+use Rattle.explain_waits.specs.Fates.{CarriesOut, IsLeft, IsFate, Fates, is_to_come, locals_of, place_of}
 use Rattle.explain_waits.specs.declared.fate.Fate.{Fate}
 use Rattle.explain_waits.specs.declared.fate.Fate.TheVariants.{Taken, Ahead, Perhaps, OutOfReach}
-use Rattle.guest_code.specs.Program.{Program, code_of}
-use Rattle.explain_run.specs.declared.explanation.Explanation.{Explanation}
-use Rattle.explain_waits.specs.Fates.{CarriesOut, IsLeft, IsFate, Fates, is_to_come, locals_of, place_of}
 use Rattle.explain_waits.specs.inner.Taking.{AreFates, taken_by, with_taken}
 
 -- a step more that doesn't carry it out

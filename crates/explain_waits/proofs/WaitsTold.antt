@@ -1,19 +1,14 @@
 -- What is told of a thread that waits, from the sets of all threads.
-use Rattle.std.proofs.Common.{◌≡◌, ℕ, List, length, Some, sym, subst}
 use Rattle.std.specs.Prelude.{◌↔◌, IsTrue}
+use Rattle.std.proofs.Common.{◌≡◌, ℕ, List, length, Some, sym, subst}
 use Rattle.guest_code.specs.Program.{Program}
-use Rattle.semantics.specs.declared.mask.Mask.{Mask}
-use Rattle.semantics.specs.Mask.{has}
+use Rattle.semantics.specs.{Mask.has, declared.mask.Mask.Mask}
 use Rattle.explain_run.specs.declared.explanation.Explanation.{Explanation}
-use Rattle.explain_waits.specs.declared.ending.Blocked.{Blocked}
-use Rattle.explain_waits.specs.declared.fate.Fate.{Fate}
-use Rattle.explain_waits.specs.declared.wait.Wait.{Wait}
-use Rattle.explain_waits.specs.Looks.{IsLookOf}
 use Rattle.explain_waits.specs.Endings.{blocked_of, statements_to}
-use Rattle.explain_waits.specs.Graph.{WaitsFor, Leads, IsIn, row}
+use Rattle.explain_waits.specs.{Graph.{WaitsFor, Leads, IsIn, row}, Looks.IsLookOf}
 use Rattle.explain_waits.specs.Waiting.{TellsWait, IsLastStep}
-use Rattle.explain_waits.proofs.Closures.{circles_along}
-use Rattle.explain_waits.proofs.Sets.{both}
+use Rattle.explain_waits.specs.declared.{ending.Blocked.Blocked, fate.Fate.Fate, wait.Wait.Wait}
+use Rattle.explain_waits.proofs.{Closures.circles_along, Sets.both}
 
 pub wait_told : (p : Program) (told : Explanation) (fates : List (List Fate)) (w : Wait)
     (b : Blocked) (edges leads : List Mask) → blocked_of told w.thread ≡ Some b

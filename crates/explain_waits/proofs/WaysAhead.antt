@@ -1,22 +1,18 @@
 -- What is ahead by the marks of the settled code is what ways lead to.
-use Rattle.std.proofs.Common.{◌≡◌, ◌∙◌, ℕ, ◌+◌, ◌<◌, ◌≤◌, inl, inr, ℤ, Bool, true, false, cond, List, [], ◌∷◌, ◌++◌, length, min, max, arith, sym, subst, ap, refl, get_or, nat_lt}
 use Rattle.std.specs.Prelude.{◌↔◌, ◌||◌, IsTrue}
+use Rattle.std.proofs.Common.{◌≡◌, ◌∙◌, ℕ, ◌+◌, ◌<◌, ◌≤◌, inl, inr, ℤ, Bool, true, false, cond, List, [], ◌∷◌, ◌++◌, length, min, max, arith, sym, subst, ap, refl, get_or, nat_lt}
 use Rattle.std.proofs.lemmas.Bool.{cases_lt, cases_Bool, or_cases, or_left, or_right, both_ways, ltb-true, lt-ltb}
 use Rattle.std.proofs.lemmas.List.{get_or_push, get_or_append_left}
-use Rattle.guest_code.specs.declared.program.Instruction.{Instruction}
+use Rattle.guest_code.specs.{Program.skip_of, declared.program.Instruction.Instruction}
 use Rattle.guest_code.specs.declared.program.Instruction.TheVariants.{Skip}
-use Rattle.guest_code.specs.Program.{skip_of}
-use Rattle.check_lint.specs.declared.paths.Mark.{Mark}
+use Rattle.check_lint.specs.{Paths.{Goes, Marks, mark_of, no_mark}, declared.paths.Mark.Mark}
 use Rattle.check_lint.specs.declared.paths.Watch.TheVariants.{Nothing}
-use Rattle.check_lint.specs.Paths.{Goes, Marks, mark_of, no_mark}
-use Rattle.explain_run.specs.declared.step.Step.{Step}
+use Rattle.explain_run.{specs.declared.step.Step.Step, proofs.Pushed.one_longer}
+use Rattle.explain_waits.specs.{Fates.{IsLeft, IsFate}, Ways.{Way, here, on, GoesOn}}
 use Rattle.explain_waits.specs.declared.fate.Fate.{Fate}
 use Rattle.explain_waits.specs.declared.fate.Fate.TheVariants.{Taken, Ahead, Perhaps, OutOfReach}
-use Rattle.explain_waits.specs.Ways.{Way, here, on, GoesOn}
-use Rattle.explain_waits.specs.Fates.{IsLeft, IsFate}
 use Rattle.explain_waits.specs.inner.Settling.{IsSettled, IsSettledAt, PassesFrom, ReachesTo}
 use Rattle.explain_waits.specs.inner.Taking.{AreByMarks, AreFates, ArePassed, fate_by}
-use Rattle.explain_run.proofs.Pushed.{one_longer}
 use Rattle.explain_waits.proofs.SettledWays.{goes_settled, ways_settled}
 
 -- no way goes on from the end, or from past it

@@ -1,25 +1,19 @@
 -- Which statements could end the wait of a blocked thread.
 use Rattle.std.specs.Prelude.{◌≡◌, ℕ, zero, suc, ◌<◌, ◌⊎◌, Bool, true, false, ◌&&◌, ◌||◌, not, nat_eq, nat_lt, List, [], ◌++◌, length, filter, map, Option, Some, None, slice_get, slice_index_or, IsTrue}
-use Rattle.std.specs.Option.{option_map}
-use Rattle.std.specs.List.{list_any}
-use Rattle.guest_code.specs.declared.program.Instruction.{Instruction}
+use Rattle.std.specs.{List.list_any, Option.option_map}
+use Rattle.guest_code.specs.{Program.{Program, code_of}, declared.program.Instruction.Instruction}
 use Rattle.guest_code.specs.declared.program.Instruction.TheVariants.{Skip}
-use Rattle.guest_code.specs.Program.{Program, code_of}
-use Rattle.semantics.specs.Machine.{owns}
-use Rattle.semantics.specs.Work.{up_from}
-use Rattle.explain_run.specs.declared.explanation.Explanation.{Explanation}
-use Rattle.explain_run.specs.declared.explanation.Holder.{Holder}
+use Rattle.semantics.specs.{Machine.owns, Work.up_from}
+use Rattle.explain_run.specs.Blocked.{mutex_of, reason_of, could_end as could_end_by}
+use Rattle.explain_run.specs.declared.explanation.{Explanation.Explanation, Holder.Holder}
 use Rattle.explain_run.specs.declared.thread_state.Reason.{Reason}
 use Rattle.explain_run.specs.declared.thread_state.Reason.TheVariants.{Lock, Retake, Acquire, Signal}
-use Rattle.explain_run.specs.Blocked.{mutex_of, reason_of, could_end as could_end_by}
-use Rattle.check_lint.specs.declared.uses.Use.TheVariants as uses
 use Rattle.check_lint.specs.Uses.{does}
-use Rattle.explain_waits.specs.declared.ending.Blocked.{Blocked}
-use Rattle.explain_waits.specs.declared.ending.Statement.{Statement}
-use Rattle.explain_waits.specs.declared.fate.Fate.{Fate}
-use Rattle.explain_waits.specs.declared.fate.Fate.TheVariants.{Ahead, OutOfReach}
-use Rattle.explain_waits.specs.declared.look.Look.{Look}
+use Rattle.check_lint.specs.declared.uses.Use.TheVariants as uses
 use Rattle.explain_waits.specs.Fates.{place_of, HasFate, is_to_come}
+use Rattle.explain_waits.specs.declared.ending.{Blocked.Blocked, Statement.Statement}
+use Rattle.explain_waits.specs.declared.fate.Fate.{Fate, TheVariants.{Ahead, OutOfReach}}
+use Rattle.explain_waits.specs.declared.look.Look.{Look}
 
 -- the owner of a mutex at the end, if it has one
 abbrev pub owner_told : Explanation → Option ℕ → Option ℕ

@@ -1,14 +1,11 @@
 -- What came of an instruction of a thread: carried out, ahead of the thread, or neither.
 use Rattle.std.specs.Prelude.{◌≡◌, ℕ, ◌<◌, ℤ, pos, Bool, true, false, List, length, replicate, Option, Some, None, slice_get, slice_index_or, IsSomeAnd}
-use Rattle.guest_code.specs.declared.limits.TheConstants.{LOCALS}
+use Rattle.guest_code.specs.{Program.{Program, code_of}, declared.limits.TheConstants.LOCALS}
 use Rattle.guest_code.specs.declared.program.Instruction.{Instruction}
-use Rattle.guest_code.specs.Program.{Program, code_of}
-use Rattle.explain_run.specs.declared.explanation.Explanation.{Explanation}
+use Rattle.explain_run.specs.declared.{explanation.Explanation.Explanation, step.Step.Step}
 use Rattle.explain_run.specs.declared.thread_state.ThreadState.{ThreadState}
-use Rattle.explain_run.specs.declared.step.Step.{Step}
-use Rattle.explain_waits.specs.declared.fate.Fate.{Fate}
+use Rattle.explain_waits.specs.{Ways.{Way, WayPast}, declared.fate.Fate.Fate}
 use Rattle.explain_waits.specs.declared.fate.Fate.TheVariants.{Taken, Ahead, Perhaps, OutOfReach}
-use Rattle.explain_waits.specs.Ways.{Way, WayPast}
 
 -- the number of the instruction at which a thread of which this is told stands, and its locals
 abbrev pub stands_at : Option ThreadState → ℕ

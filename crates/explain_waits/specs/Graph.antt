@@ -1,13 +1,10 @@
 -- Who waits for whom.
 use Rattle.std.specs.Prelude.{◌≡◌, ℕ, ◌<◌, ◌⊎◌, length, Some, IsTrue, List, slice_index_or}
 use Rattle.guest_code.specs.Program.{Program}
-use Rattle.semantics.specs.declared.mask.Mask.{Mask}
-use Rattle.semantics.specs.Mask.{has, no_threads}
+use Rattle.semantics.specs.{Mask.{has, no_threads}, declared.mask.Mask.Mask}
 use Rattle.explain_run.specs.declared.explanation.Explanation.{Explanation}
-use Rattle.explain_waits.specs.declared.ending.Blocked.{Blocked}
-use Rattle.explain_waits.specs.declared.look.Look.{Look}
-use Rattle.explain_waits.specs.Looks.{IsLookOf}
-use Rattle.explain_waits.specs.Endings.{HasAhead, blocked_of}
+use Rattle.explain_waits.specs.{Endings.{HasAhead, blocked_of}, Looks.IsLookOf}
+use Rattle.explain_waits.specs.declared.{ending.Blocked.Blocked, look.Look.Look}
 
 -- thread t is blocked, and thread u owns the mutex that it waits for, or has a statement ahead that
 -- could end its wait and helps it

@@ -1,18 +1,15 @@
 -- What a thread that waits for a condition looks at, if it is woken as things are.
 use Rattle.std.specs.Prelude.{◌≡◌, ℕ, ◌+◌, min, ℤ, pos, Bool, false, List, [], ◌∷◌, length, slice_set, slice_get, slice_index_or, Option, Some, None}
-use Rattle.guest_code.specs.declared.program.Instruction.{Instruction}
+use Rattle.guest_code.specs.{Program.{Program, code_of}, declared.program.Instruction.Instruction}
 use Rattle.guest_code.specs.declared.program.Instruction.TheVariants.{Load}
-use Rattle.guest_code.specs.Program.{Program, code_of}
+use Rattle.semantics.specs.{LocalRun.run_from, declared.state.Status.TheVariants.Running}
 use Rattle.semantics.specs.declared.state.Thread.{Thread}
-use Rattle.semantics.specs.declared.state.Status.TheVariants.{Running}
-use Rattle.semantics.specs.LocalRun.{run_from}
 use Rattle.check_lint.specs.Uses.{waits}
 use Rattle.explain_run.specs.declared.explanation.Explanation.{Explanation}
 use Rattle.explain_run.specs.declared.thread_state.Reason.{Reason}
 use Rattle.explain_run.specs.declared.thread_state.Reason.TheVariants.{Lock, Retake, Acquire, Signal}
-use Rattle.explain_waits.specs.declared.ending.Blocked.{Blocked}
+use Rattle.explain_waits.specs.{Fates.locals_of, declared.ending.Blocked.Blocked}
 use Rattle.explain_waits.specs.declared.look.Look.{Look}
-use Rattle.explain_waits.specs.Fates.{locals_of}
 
 -- a thread that goes on at an instruction with these locals, up to the next visible statement
 abbrev pub resumed_at : List Instruction → ℕ → List ℤ → Thread

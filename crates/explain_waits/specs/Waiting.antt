@@ -1,19 +1,12 @@
 -- What is told of the threads that wait, and of their circles.
 use Rattle.std.specs.Prelude.{◌≡◌, ℕ, zero, suc, ◌<◌, ◌↔◌, Bool, true, ◌&&◌, not, IsTrue, List, [], length, filter, map, Option, Some, None, slice_index_or, is_some, All, Any, IsSomeAnd, slice_get}
 use Rattle.guest_code.specs.Program.{Program}
-use Rattle.semantics.specs.declared.mask.Mask.{Mask}
-use Rattle.semantics.specs.Mask.{has}
-use Rattle.semantics.specs.Work.{up_from}
-use Rattle.explain_run.specs.declared.explanation.Explanation.{Explanation}
-use Rattle.explain_run.specs.declared.step.Step.{Step}
-use Rattle.explain_waits.specs.declared.ending.Blocked.{Blocked}
-use Rattle.explain_waits.specs.declared.fate.Fate.{Fate}
-use Rattle.explain_waits.specs.declared.wait.Wait.{Wait}
-use Rattle.explain_waits.specs.declared.wait.Waits.{Waits}
-use Rattle.explain_waits.specs.Fates.{Fates}
-use Rattle.explain_waits.specs.Looks.{IsLookOf}
+use Rattle.semantics.specs.{Mask.has, Work.up_from, declared.mask.Mask.Mask}
+use Rattle.explain_run.specs.declared.{explanation.Explanation.Explanation, step.Step.Step}
 use Rattle.explain_waits.specs.Endings.{blocked_of, statements_to}
-use Rattle.explain_waits.specs.Graph.{WaitsFor, Leads, AreInCircle}
+use Rattle.explain_waits.specs.{Fates.Fates, Graph.{WaitsFor, Leads, AreInCircle}, Looks.IsLookOf}
+use Rattle.explain_waits.specs.declared.{ending.Blocked.Blocked, fate.Fate.Fate, wait.Wait.Wait}
+use Rattle.explain_waits.specs.declared.wait.Waits.{Waits}
 
 -- the step at place k is of thread t
 abbrev pub IsStepOf : List Step → ℕ → ℕ → Type 0

@@ -3,8 +3,7 @@ use Rattle.std.specs.Prelude.{ℕ, ◌<◌, ◌⊎◌, ℤ, Bool, true, false, I
 use Rattle.guest_code.specs.declared.program.Instruction.{Instruction}
 use Rattle.guest_code.specs.declared.program.Instruction.TheVariants.{SkipIfZero, Skip}
 use Rattle.semantics.specs.Expressions.{value_of_expression, is_zero}
-use Rattle.check_lint.specs.Uses.{expression_reads}
-use Rattle.check_lint.specs.Paths.{Goes, Next, Comes}
+use Rattle.check_lint.specs.{Paths.{Goes, Next, Comes}, Uses.expression_reads}
 use Rattle.check_lint.specs.declared.paths.Watch.TheVariants.{IsSet}
 
 -- an instruction is a test that reads local r

@@ -1,12 +1,11 @@
 //! What came of each instruction of a thread in a schedule: carried out, still ahead, or neither.
 
 ghost use Rattle.std.specs.Prelude.{◌≡◌, ◌<◌, ◌+◌, ◌^◌, ◌↔◌, nat_lt, ℕ, ℤ, List, IsTrue, length, IfOk};
-ghost use Rattle.guest_code.specs.declared.program.Instruction.{Instruction};
 ghost use Rattle.guest_code.specs.Program.{Program, JumpsWithin, IsValidCode};
+ghost use Rattle.guest_code.specs.declared.program.Instruction.{Instruction};
 ghost use Rattle.explain_run.specs.declared.step.Step.{Step};
 ghost use Rattle.explain_waits.specs.Fates.{Fates, is_to_come, locals_of, place_of};
-ghost use Rattle.explain_waits.specs.Waiting.{AllFates};
-ghost use Rattle.explain_waits.specs.inner.Rows.{lists, Fits};
+ghost use Rattle.explain_waits.specs.{Waiting.AllFates, inner.Rows.{lists, Fits}};
 ghost use Rattle.explain_waits.specs.inner.Taking.{AreByMarks, AreFates, fate_by, taken_by, with_taken};
 
 use crate::ways::{reach_after, settled_code};

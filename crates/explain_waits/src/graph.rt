@@ -2,8 +2,7 @@
 
 ghost use Rattle.std.specs.Prelude.{◌<◌, ◌↔◌, ℕ, IsTrue};
 ghost use Rattle.semantics.specs.Mask.{has};
-ghost use Rattle.explain_waits.specs.Graph.{Leads, IsIn};
-ghost use Rattle.explain_waits.specs.inner.Rows.{IsExtendedThrough};
+ghost use Rattle.explain_waits.specs.{Graph.{Leads, IsIn}, inner.Rows.IsExtendedThrough};
 
 use guest_code::limits::THREADS;
 use semantics::mask::Mask;

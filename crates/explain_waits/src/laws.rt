@@ -3,11 +3,9 @@
 
 ghost use Rattle.std.specs.Prelude.{◌≡◌, ℕ, IsTrue, Contains};
 ghost use Rattle.guest_code.specs.Program.{Program};
-ghost use Rattle.semantics.specs.declared.mask.Mask.{Mask};
-ghost use Rattle.semantics.specs.Mask.{has};
+ghost use Rattle.semantics.specs.{Mask.has, declared.mask.Mask.Mask};
 ghost use Rattle.explain_run.specs.declared.explanation.Explanation.{Explanation};
-ghost use Rattle.explain_waits.specs.declared.wait.Waits.{Waits};
-ghost use Rattle.explain_waits.specs.Waiting.{TellsWaits};
+ghost use Rattle.explain_waits.specs.{Waiting.TellsWaits, declared.wait.Waits.Waits};
 
 /// No thread is in two circles, which are sets of threads each of which waits, directly or through
 /// others, for each of them: two circles that share a thread have the same threads.

@@ -1,11 +1,10 @@
 //! Ways on through the code of a thread, from where it stands at the end, as its locals allow them.
 
 ghost use Rattle.std.specs.Prelude.{◌≡◌, ◌≤◌, ◌<◌, ◌+◌, ◌^◌, ◌&&◌, ◌||◌, max, ℕ, true, false, IfOk, length, slice_index_or, if◌then◌else◌};
-ghost use Rattle.guest_code.specs.declared.program.Instruction.TheVariants.{Skip};
 ghost use Rattle.guest_code.specs.Program.{Program, JumpsWithin, IsValidCode, IsValid, skip_of};
+ghost use Rattle.guest_code.specs.declared.program.Instruction.TheVariants.{Skip};
 ghost use Rattle.check_lint.specs.Paths.{mark_of, no_mark};
-ghost use Rattle.explain_waits.specs.Ways.{tests, decided};
-ghost use Rattle.explain_waits.specs.inner.Settling.{AreOpen, IsSettled};
+ghost use Rattle.explain_waits.specs.{Ways.{tests, decided}, inner.Settling.{AreOpen, IsSettled}};
 
 use check_lint::paths::{Mark, Watch, path_marks, skip_of};
 use check_lint::uses::expression_reads;

@@ -1,10 +1,9 @@
 -- The uses of a thread's body declare nothing.
 use Rattle.std.proofs.Common.{◌≡◌, ℕ, List, [], ◌∷◌, ◌++◌, Bool, true, false, refl}
-use Rattle.guest_syntax.specs.declared.place.Pos.{Pos}
+use Rattle.guest_syntax.specs.{Tree.{Operand, Expr, Stmt, Block}, declared.place.Pos.Pos}
 use Rattle.guest_syntax.specs.Tree as tree
-use Rattle.guest_syntax.specs.Tree.{Operand, Expr, Stmt, Block}
-use Rattle.guest_code.specs.declared.kinds.NameKind.{NameKind}
 use Rattle.guest_code.specs.Uses.{Use, declares, object, local, outside, operand_uses, expr_uses, stmt_uses, block_uses, kind_in, how_many}
+use Rattle.guest_code.specs.declared.kinds.NameKind.{NameKind}
 
 abbrev pub DeclaresNothing : List Use → Type 0
 DeclaresNothing [] = Unit {0}

@@ -1,24 +1,20 @@
 -- What each end of the check answers.
 use Rattle.std.proofs.Common.{◌≡◌, ℕ, ◌+◌, ◌<◌, Bool, true, false, List, [], ◌∷◌, ◌++◌, length, get_or, take, drop, map, Option, Some, None, Ok, Err, Vec, Global, refl, sym, ap, ◌∙◌, arith, add-one, ltb, if◌then◌else◌}
-use Rattle.std.proofs.Math.Seq.{take-suc}
+use Rattle.std.{specs.Option.option_or, proofs.Math.Seq.take-suc, proofs.lemmas.Bool.ltb-true}
 use Rattle.std.proofs.lemmas.List.{map-append, nil_from_length}
-use Rattle.std.proofs.lemmas.Bool.{ltb-true}
-use Rattle.guest_syntax.specs.declared.tree.Declaration.{Declaration}
-use Rattle.guest_syntax.specs.declared.tree.Thread.{Thread}
+use Rattle.guest_syntax.specs.Tree.{declaration_view, thread_view, tree_view, name_view, block_view}
+use Rattle.guest_syntax.specs.declared.tree.{Declaration.Declaration, Thread.Thread}
 use Rattle.guest_syntax.specs.declared.tree.Tree as code-tree
 use Rattle.guest_syntax.specs.Tree as tree
-use Rattle.guest_syntax.specs.Tree.{declaration_view, thread_view, tree_view, name_view, block_view}
-use Rattle.guest_code.specs.declared.kinds.NameKind.{NameKind}
-use Rattle.guest_code.specs.declared.kinds.NameKind.TheVariants as kinds
-use Rattle.guest_code.specs.declared.error.CheckError.{CheckError}
-use Rattle.guest_code.specs.declared.error.CheckError.TheVariants as errors
-use Rattle.guest_code.specs.declared.limits.TheConstants.{THREADS}
-use Rattle.guest_code.specs.Uses.{Use, kind_of, block_uses, declarations_uses, threads_uses, uses, kind_in, how_many, thread_locals}
-use Rattle.std.specs.Option.{option_or}
-use Rattle.guest_code.specs.Program.{locals_view}
 use Rattle.guest_code.specs.Fault.{declares_refusal, first, too_long, no_threads, fault, Refuses}
+use Rattle.guest_code.specs.Program.{locals_view}
+use Rattle.guest_code.specs.Uses.{Use, kind_of, block_uses, declarations_uses, threads_uses, uses, kind_in, how_many, thread_locals}
+use Rattle.guest_code.specs.declared.{error.CheckError.CheckError, kinds.NameKind.NameKind}
+use Rattle.guest_code.specs.declared.limits.TheConstants.{THREADS}
 use Rattle.guest_code.specs.inner.Walk.{Checked, all_uses, passed, walk, fault_of}
 use Rattle.guest_code.proofs.UsesOneByOne.{passed_ok, passed_err, declaration_step, thread_step, threads_left, threads_not, body_leaves}
+use Rattle.guest_code.specs.declared.kinds.NameKind.TheVariants as kinds
+use Rattle.guest_code.specs.declared.error.CheckError.TheVariants as errors
 
 refuses_same : (d : CheckError) (o : Option CheckError) → o ≡ Some d → Refuses d o
 refuses_same errors.OutOfMemory o e = tt

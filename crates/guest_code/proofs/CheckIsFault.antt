@@ -1,14 +1,11 @@
 -- The walk along the uses finds the first refusal in text order.
 use Rattle.std.proofs.Common.{◌≡◌, ℕ, ◌+◌, ◌<◌, Bool, List, [], ◌∷◌, ◌++◌, length, get_or, drop, Option, Some, None, Ok, Err, refl, sym, ap, subst, ◌∙◌, append_assoc, add-one, drop-cons}
-use Rattle.guest_syntax.specs.declared.tree.Placed.{Placed}
-use Rattle.guest_syntax.specs.Tree.{stmt_view, block_view}
+use Rattle.std.{specs.Option.option_or, proofs.lemmas.List.append-nil}
+use Rattle.guest_syntax.specs.{Tree.{stmt_view, block_view}, declared.tree.Placed.Placed}
 use Rattle.guest_syntax.proofs.StatementView.{view-placed}
-use Rattle.std.proofs.lemmas.List.{append-nil}
-use Rattle.guest_code.specs.declared.error.CheckError.{CheckError}
-use Rattle.guest_code.specs.declared.error.CheckError.TheVariants.{OutOfMemory}
-use Rattle.guest_code.specs.Uses.{Use, declares, object, local, outside, stmt_uses, block_uses, kind_in, with_name, locals_from}
-use Rattle.std.specs.Option.{option_or}
 use Rattle.guest_code.specs.Fault.{object_refusal, local_refusal, refusal, first, Refuses}
+use Rattle.guest_code.specs.Uses.{Use, declares, object, local, outside, stmt_uses, block_uses, kind_in, with_name, locals_from}
+use Rattle.guest_code.specs.declared.error.CheckError.{CheckError, TheVariants.OutOfMemory}
 use Rattle.guest_code.specs.inner.Walk.{Checked, passed, and_then, walk, fault_of}
 use Rattle.guest_code.proofs.BodiesDeclareNothing.{DeclaresNothing}
 

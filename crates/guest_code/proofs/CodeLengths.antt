@@ -1,16 +1,12 @@
 -- Sizes and codes, one statement after the other.
 use Rattle.std.proofs.Common.{◌≡◌, ℕ, zero, suc, ◌+◌, ◌-◌, ◌*◌, ◌<◌, ◌≤◌, min, List, [], ◌∷◌, ◌++◌, length, get_or, drop, refl, sym, ◌∙◌, arith, add-one, drop-cons, append_assoc, length-append}
 use Rattle.std.proofs.lemmas.List.{drop_all, nil_from_length, append-nil}
+use Rattle.guest_syntax.specs.Tree.{Stmt, Block, stmt_view, block_view}
+use Rattle.guest_syntax.{specs.declared.tree.Placed.Placed, proofs.StatementView.view-placed}
 use Rattle.guest_syntax.specs.Tree as tree
-use Rattle.guest_syntax.specs.Tree.{Stmt, Block}
-use Rattle.guest_code.specs.declared.limits.TheConstants.{INSTRUCTIONS}
-use Rattle.guest_code.specs.declared.program.Instruction.TheVariants.{Skip}
-use Rattle.guest_syntax.specs.declared.tree.Placed.{Placed}
-use Rattle.guest_syntax.specs.Tree.{stmt_view, block_view}
-use Rattle.guest_syntax.proofs.StatementView.{view-placed}
-use Rattle.guest_code.specs.declared.program.Instruction.{Instruction}
-use Rattle.guest_code.specs.Sizes.{size, block_size}
 use Rattle.guest_code.specs.Code.{Names, stmt_code, block_code, unrolled}
+use Rattle.guest_code.specs.{Sizes.{size, block_size}, declared.limits.TheConstants.INSTRUCTIONS}
+use Rattle.guest_code.specs.declared.program.Instruction.{Instruction, TheVariants.Skip}
 
 pub block_size_at : (ss : List Placed) (i : ℕ) (x : Placed) → i < length ss → x ≡ get_or ss i x
     → block_size (block_view (drop i ss))

@@ -1,21 +1,16 @@
 -- How many of each kind a text without a fault declares, and which numbers they have.
 use Rattle.std.proofs.Common.{◌≡◌, ℕ, suc, ◌+◌, ◌<◌, ◌≤◌, Bool, true, false, ltb, List, [], ◌∷◌, ◌++◌, length, Option, Some, None, refl, sym, ap, ◌∙◌, arith, append_assoc, if◌then◌else◌, ◌||◌}
-use Rattle.std.proofs.lemmas.List.{append-nil}
-use Rattle.std.proofs.lemmas.Bool.{ltb-true}
-use Rattle.std.specs.List.{cons_option}
-use Rattle.std.specs.Str.{bytes_eq}
-use Rattle.guest_syntax.specs.declared.tree.Object.{Object}
+use Rattle.std.specs.{List.cons_option, Option.option_or, Str.bytes_eq}
+use Rattle.std.proofs.lemmas.{Bool.ltb-true, List.append-nil}
+use Rattle.guest_syntax.specs.{Tree.{Name, Declaration, Thread}, declared.tree.Object.Object}
 use Rattle.guest_syntax.specs.declared.tree.Object.TheVariants as objects
-use Rattle.guest_syntax.specs.Tree.{Name, Declaration, Thread}
-use Rattle.guest_code.specs.declared.kinds.NameKind.{NameKind}
-use Rattle.guest_code.specs.declared.kinds.NameKind.TheVariants as kinds
-use Rattle.guest_code.specs.declared.error.CheckError.{CheckError}
-use Rattle.guest_code.specs.declared.error.CheckError.TheVariants as errors
-use Rattle.guest_code.specs.Uses.{Use, declares, object, local, outside, kind_of, same, block_uses, declarations_uses, threads_uses, uses, kind_in, how_many, knows}
-use Rattle.std.specs.Option.{option_or}
-use Rattle.guest_code.specs.Fault.{limit_of, declares_refusal, refusal, first}
 use Rattle.guest_code.specs.Code.{object_index, local_index, objects_by, variable_of, mutex_of, condition_of, semaphore_of}
+use Rattle.guest_code.specs.Fault.{limit_of, declares_refusal, refusal, first}
+use Rattle.guest_code.specs.Uses.{Use, declares, object, local, outside, kind_of, same, block_uses, declarations_uses, threads_uses, uses, kind_in, how_many, knows}
+use Rattle.guest_code.specs.declared.{error.CheckError.CheckError, kinds.NameKind.NameKind}
 use Rattle.guest_code.proofs.BodiesDeclareNothing.{block_declares_nothing, kind_skips}
+use Rattle.guest_code.specs.declared.kinds.NameKind.TheVariants as kinds
+use Rattle.guest_code.specs.declared.error.CheckError.TheVariants as errors
 
 -- ---- no refusal
 

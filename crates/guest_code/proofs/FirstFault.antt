@@ -1,11 +1,8 @@
 -- The first refusal is at one use, with none in front of it.
 use Rattle.std.proofs.Common.{◌≡◌, List, [], ◌∷◌, ◌++◌, Option, Some, None, refl, ap, ◌∙◌, append_assoc}
-use Rattle.std.proofs.lemmas.List.{append-nil}
+use Rattle.std.{specs.Option.option_or, proofs.lemmas.List.append-nil}
+use Rattle.guest_code.specs.{Fault.{refusal, first}, FirstFault.IsFirstFault, Uses.Use}
 use Rattle.guest_code.specs.declared.error.CheckError.{CheckError}
-use Rattle.guest_code.specs.Uses.{Use}
-use Rattle.std.specs.Option.{option_or}
-use Rattle.guest_code.specs.Fault.{refusal, first}
-use Rattle.guest_code.specs.FirstFault.{IsFirstFault}
 
 no_parts : (xs : List Use) (u : Use) (ys : List Use) → [] ≡ xs ++ u ∷ ys → ⊥
 no_parts [] u ys e = cc

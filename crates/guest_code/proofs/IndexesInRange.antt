@@ -1,29 +1,23 @@
 -- Code of statements whose names are right has its numbers in range.
 use Rattle.std.proofs.Common.{◌≡◌, ℕ, zero, suc, ◌+◌, ◌*◌, ◌<◌, ◌≤◌, Bool, true, false, ltb, List, [], ◌∷◌, ◌++◌, length, Option, Some, None, Ok, refl, sym, ap, ◌∙◌, arith, if◌then◌else◌, ◌||◌, length-append}
-use Rattle.std.specs.List.{All}
-use Rattle.std.specs.Str.{bytes_eq}
-use Rattle.std.proofs.lemmas.Bool.{ltb-true}
+use Rattle.std.{specs.List.All, specs.Str.bytes_eq, proofs.lemmas.Bool.ltb-true}
 use Rattle.std.proofs.lemmas.List.Elements.{All-append, All-cons, All-nil}
 use Rattle.std.proofs.lemmas.Slice.Eq.{bytes_eq-Decides}
-use Rattle.guest_syntax.specs.declared.place.Pos.{Pos}
+use Rattle.guest_syntax.specs.{Tree.{Name, Operand, Expr, Stmt, Block}, declared.place.Pos.Pos}
 use Rattle.guest_syntax.specs.Tree as tree
-use Rattle.guest_syntax.specs.Tree.{Name, Operand, Expr, Stmt, Block}
-use Rattle.guest_code.specs.declared.kinds.NameKind.{NameKind}
-use Rattle.guest_code.specs.declared.kinds.NameKind.TheVariants as kinds
-use Rattle.guest_code.specs.declared.limits.TheConstants.{LOCALS}
-use Rattle.guest_code.specs.declared.program.Instruction.{Instruction}
-use Rattle.guest_code.specs.declared.program.Instruction.TheVariants.{SkipIfZero, Skip}
-use Rattle.guest_code.specs.declared.error.CheckError.{CheckError}
-use Rattle.guest_code.specs.declared.error.CheckError.TheVariants as errors
-use Rattle.guest_code.specs.Program.{Program, IsValidValue, IsValidExpression, IsValid, IsValueBelow, IsExpressionBelow, LocalsBelow}
-use Rattle.guest_code.specs.Uses.{Use, declares, object, local, outside, same, operand_uses, expr_uses, stmt_uses, block_uses, kind_in, knows, with_name, locals_from}
-use Rattle.guest_code.specs.Sizes.{block_size}
-use Rattle.guest_code.specs.Fault.{object_refusal, local_refusal}
-use Rattle.guest_code.specs.inner.Walk.{Checked, passed, and_then, walk}
 use Rattle.guest_code.specs.Code.{Names, object_index, local_number, value_of, expression_of, stmt_code, block_code, unrolled}
-use Rattle.guest_code.proofs.BodiesDeclareNothing.{DeclaresNothing}
-use Rattle.guest_code.proofs.CheckIsFault.{walk_leaves}
+use Rattle.guest_code.specs.Fault.{object_refusal, local_refusal}
+use Rattle.guest_code.specs.Program.{Program, IsValidValue, IsValidExpression, IsValid, IsValueBelow, IsExpressionBelow, LocalsBelow}
+use Rattle.guest_code.specs.Sizes.{block_size}
+use Rattle.guest_code.specs.Uses.{Use, declares, object, local, outside, same, operand_uses, expr_uses, stmt_uses, block_uses, kind_in, knows, with_name, locals_from}
+use Rattle.guest_code.specs.declared.{error.CheckError.CheckError, kinds.NameKind.NameKind}
+use Rattle.guest_code.specs.declared.{limits.TheConstants.LOCALS, program.Instruction.Instruction}
+use Rattle.guest_code.specs.declared.program.Instruction.TheVariants.{SkipIfZero, Skip}
+use Rattle.guest_code.specs.inner.Walk.{Checked, passed, and_then, walk}
+use Rattle.guest_code.proofs.{BodiesDeclareNothing.DeclaresNothing, CheckIsFault.walk_leaves}
 use Rattle.guest_code.proofs.DeclarationCounts.{same_is, local_index-less}
+use Rattle.guest_code.specs.declared.kinds.NameKind.TheVariants as kinds
+use Rattle.guest_code.specs.declared.error.CheckError.TheVariants as errors
 
 -- ---- names that are right
 

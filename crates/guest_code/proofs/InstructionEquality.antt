@@ -1,19 +1,16 @@
 -- Instructions are the same exactly where `==` says so.
 use Rattle.std.proofs.Common.{◌≡◌, ℕ, ℤ, ◌&&◌, true, false, Bool, refl, ap}
-use Rattle.std.specs.Cmp.{unsigned_Decides, signed_Decides}
-use Rattle.std.proofs.lemmas.Bool.{false≢true}
+use Rattle.std.{specs.Cmp.{unsigned_Decides, signed_Decides}, proofs.lemmas.Bool.false≢true}
+use Rattle.guest_syntax.specs.contracts.tree.OpPartialEq.TheImpl.{eq-value as same-op}
 use Rattle.guest_syntax.specs.declared.tree.Op.{Op}
 use Rattle.guest_syntax.specs.declared.tree.Op.TheVariants as ops
-use Rattle.guest_syntax.specs.contracts.tree.OpPartialEq.TheImpl.{eq-value as same-op}
-use Rattle.guest_code.specs.declared.program.Value.{Value}
-use Rattle.guest_code.specs.declared.program.Value.TheVariants.{Local, Literal}
-use Rattle.guest_code.specs.declared.program.Expression.{Expression}
-use Rattle.guest_code.specs.declared.program.Expression.TheVariants.{Single, Both}
-use Rattle.guest_code.specs.declared.program.Instruction.{Instruction}
-use Rattle.guest_code.specs.declared.program.Instruction.TheVariants.{Load, Store, Add, Cas, Lock, Unlock, Wait, Signal, Broadcast, Acquire, Release, Set, Assert, SkipIfZero, Skip}
-use Rattle.guest_code.specs.contracts.program.ValuePartialEq.TheImpl.{eq-value as same-value}
 use Rattle.guest_code.specs.contracts.program.ExpressionPartialEq.TheImpl.{eq-value as same-expression}
 use Rattle.guest_code.specs.contracts.program.InstructionPartialEq.TheImpl.{eq-value as same-instruction}
+use Rattle.guest_code.specs.contracts.program.ValuePartialEq.TheImpl.{eq-value as same-value}
+use Rattle.guest_code.specs.declared.program.Expression.{Expression, TheVariants.{Single, Both}}
+use Rattle.guest_code.specs.declared.program.Instruction.{Instruction}
+use Rattle.guest_code.specs.declared.program.Instruction.TheVariants.{Load, Store, Add, Cas, Lock, Unlock, Wait, Signal, Broadcast, Acquire, Release, Set, Assert, SkipIfZero, Skip}
+use Rattle.guest_code.specs.declared.program.Value.{Value, TheVariants.{Local, Literal}}
 
 pub both : (a b : Bool) → (a && b) ≡ true → (a ≡ true) × (b ≡ true)
 both true b h = (refl, h)

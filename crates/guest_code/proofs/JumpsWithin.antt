@@ -1,12 +1,10 @@
 -- The jumps of the code of a tree are within it.
 use Rattle.std.proofs.Common.{◌≡◌, ℕ, zero, suc, ◌+◌, ◌*◌, ◌<◌, ◌≤◌, List, [], ◌∷◌, ◌++◌, length, get_or, arith, length-append}
-use Rattle.guest_syntax.specs.Tree as tree
 use Rattle.guest_syntax.specs.Tree.{Stmt, Block}
-use Rattle.guest_code.specs.declared.program.Instruction.{Instruction}
-use Rattle.guest_code.specs.declared.program.Instruction.TheVariants.{Skip}
-use Rattle.guest_code.specs.Program.{JumpsWithin, skip_of}
-use Rattle.guest_code.specs.Sizes.{block_size}
+use Rattle.guest_syntax.specs.Tree as tree
 use Rattle.guest_code.specs.Code.{Names, stmt_code, block_code, unrolled}
+use Rattle.guest_code.specs.{Program.{JumpsWithin, skip_of}, Sizes.block_size}
+use Rattle.guest_code.specs.declared.program.Instruction.{Instruction, TheVariants.Skip}
 use Rattle.guest_code.proofs.CodeLengths.{block_length, length-unrolled}
 
 -- each jump goes at most so far after the code's end

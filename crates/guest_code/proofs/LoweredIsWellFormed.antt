@@ -1,29 +1,25 @@
 -- The program of a tree without a fault is well formed.
 use Rattle.std.proofs.Common.{◌≡◌, ℕ, ◌+◌, ◌<◌, ◌≤◌, Bool, true, false, ltb, List, [], ◌∷◌, ◌++◌, length, map, Some, None, Ok, Err, refl, sym, ap, subst, ◌∙◌, arith, if◌then◌else◌}
-use Rattle.std.specs.List.{All}
-use Rattle.std.proofs.lemmas.List.{length-map}
-use Rattle.std.proofs.lemmas.List.Elements.{All-cons, All-nil}
-use Rattle.std.proofs.lemmas.Bool.{ltb-false}
+use Rattle.std.{specs.List.All, specs.Option.option_or, proofs.lemmas.Bool.ltb-false}
+use Rattle.std.proofs.lemmas.List.{length-map, Elements.{All-cons, All-nil}}
 use Rattle.guest_syntax.specs.Tree.{Declaration, Thread, Tree}
-use Rattle.guest_code.specs.declared.kinds.NameKind.{NameKind}
-use Rattle.guest_code.specs.declared.kinds.NameKind.TheVariants as kinds
-use Rattle.guest_code.specs.declared.error.CheckError.TheVariants as errors
-use Rattle.guest_code.specs.declared.limits.TheConstants.{LOCALS, INSTRUCTIONS, COUNT}
-use Rattle.guest_code.specs.Program.{Program, IsValidCode, LocalsBelow, JumpsWithin, IsWellFormed}
-use Rattle.guest_code.specs.Program as program
-use Rattle.guest_code.specs.Uses.{Use, same, block_uses, thread_uses, declarations_uses, threads_uses, uses, kind_in, how_many, thread_locals}
-use Rattle.guest_code.specs.Sizes.{block_size}
-use Rattle.std.specs.Option.{option_or}
-use Rattle.guest_code.specs.Fault.{limit_of, declares_refusal, first, no_threads, too_long, fault}
-use Rattle.guest_code.specs.inner.Walk.{Checked, walk, fault_of}
 use Rattle.guest_code.specs.Code.{Names, object_index, objects_by, variable_of, mutex_of, condition_of, semaphore_of, thread_code, code}
+use Rattle.guest_code.specs.Fault.{limit_of, declares_refusal, first, no_threads, too_long, fault}
+use Rattle.guest_code.specs.Program.{Program, IsValidCode, LocalsBelow, JumpsWithin, IsWellFormed}
+use Rattle.guest_code.specs.Sizes.{block_size}
+use Rattle.guest_code.specs.Uses.{Use, same, block_uses, thread_uses, declarations_uses, threads_uses, uses, kind_in, how_many, thread_locals}
+use Rattle.guest_code.specs.declared.kinds.NameKind.{NameKind}
+use Rattle.guest_code.specs.declared.limits.TheConstants.{LOCALS, INSTRUCTIONS, COUNT}
+use Rattle.guest_code.specs.inner.Walk.{Checked, walk, fault_of}
 use Rattle.guest_code.proofs.BodiesDeclareNothing.{block_declares_nothing}
-use Rattle.guest_code.proofs.CheckIsFault.{first_append}
-use Rattle.guest_code.proofs.UsesOneByOne.{many_none, many_threads, one_thread, body_leaves}
-use Rattle.guest_code.proofs.CodeLengths.{block_length}
+use Rattle.guest_code.proofs.{CheckIsFault.first_append, CodeLengths.block_length}
 use Rattle.guest_code.proofs.DeclarationCounts.{or_none, few, many_append, object_index-less, many_variables, many_mutexes, many_conditions, many_semaphores}
 use Rattle.guest_code.proofs.IndexesInRange.{NamesInRange, walk_right, walk_few, block_in_range}
 use Rattle.guest_code.proofs.JumpsWithin.{jumps_within}
+use Rattle.guest_code.proofs.UsesOneByOne.{many_none, many_threads, one_thread, body_leaves}
+use Rattle.guest_code.specs.declared.kinds.NameKind.TheVariants as kinds
+use Rattle.guest_code.specs.declared.error.CheckError.TheVariants as errors
+use Rattle.guest_code.specs.Program as program
 
 -- ---- one thread
 

@@ -1,16 +1,14 @@
 -- The objects of a kind, one declaration after the other.
 use Rattle.std.proofs.Common.{◌≡◌, ℕ, ℤ, ◌+◌, ◌<◌, ◌≤◌, List, [], ◌∷◌, ◌++◌, length, get_or, drop, map, Option, Some, None, refl, sym, ap, subst, ◌∙◌, add-one, drop-cons, append_assoc}
-use Rattle.std.proofs.lemmas.List.{map-append}
+use Rattle.std.{specs.List.All, proofs.lemmas.List.map-append}
+use Rattle.std.proofs.lemmas.List.Elements.{All-append, All-cons, All-nil}
+use Rattle.guest_syntax.specs.{Tree.declaration_view, declared.tree.Declaration.Declaration}
 use Rattle.guest_syntax.specs.declared.tree.Object.{Object}
 use Rattle.guest_syntax.specs.declared.tree.Object.TheVariants as objects
-use Rattle.guest_syntax.specs.declared.tree.Declaration.{Declaration}
-use Rattle.guest_syntax.specs.Tree.{declaration_view}
-use Rattle.std.specs.List.{All}
-use Rattle.std.proofs.lemmas.List.Elements.{All-append, All-cons, All-nil}
+use Rattle.guest_code.specs.Code.{objects_by, variable_of, semaphore_of}
+use Rattle.guest_code.specs.Program.{Variable, Semaphore, semaphore_view}
 use Rattle.guest_code.specs.declared.limits.TheConstants.{COUNT}
 use Rattle.guest_code.specs.declared.program.Semaphore as code-semaphore
-use Rattle.guest_code.specs.Program.{Variable, Semaphore, semaphore_view}
-use Rattle.guest_code.specs.Code.{objects_by, variable_of, semaphore_of}
 
 -- a declaration of the kind
 pub objects_more : {X Y : Type 0} (of : List ℕ → Object → Option X) (view : Y → X)

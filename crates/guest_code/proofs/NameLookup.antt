@@ -1,12 +1,11 @@
 -- Looking through declarations, threads and names, one after the other.
 use Rattle.std.proofs.Common.{◌≡◌, ℕ, ◌+◌, ◌<◌, cond, Bool, true, false, List, [], ◌∷◌, ◌++◌, length, get_or, drop, map, Option, Some, None, refl, add-one, drop-cons, if◌then◌else◌}
 use Rattle.std.specs.Str.{bytes_eq}
-use Rattle.guest_syntax.specs.declared.tree.Thread.{Thread}
-use Rattle.guest_syntax.specs.Tree.{thread_view, block_view}
-use Rattle.guest_code.specs.declared.kinds.NameKind.{NameKind}
-use Rattle.guest_code.specs.declared.kinds.NameKind.TheVariants as kinds
+use Rattle.guest_syntax.specs.{Tree.{thread_view, block_view}, declared.tree.Thread.Thread}
 use Rattle.guest_code.specs.Uses.{Use, declares, object, local, outside, block_uses, threads_uses, kind_in}
+use Rattle.guest_code.specs.declared.kinds.NameKind.{NameKind}
 use Rattle.guest_code.proofs.BodiesDeclareNothing.{block_declares_nothing, kind_skips}
+use Rattle.guest_code.specs.declared.kinds.NameKind.TheVariants as kinds
 
 pub thread_at : (ts : List Thread) (i : ℕ) (name : List ℕ) (x : Thread) → i < length ts
     → x ≡ get_or ts i x → (b : Bool) → bytes_eq x.name.text.items name ≡ b

@@ -1,17 +1,16 @@
 -- Programs are the same exactly where `==` says so.
 use Rattle.std.proofs.Common.{◌≡◌, ℕ, ◌&&◌, nat_eq, List, [], ◌∷◌, map, true, false, Bool, Vec, Global, refl, ap, sym, subst, ◌∙◌}
-use Rattle.std.specs.Bool.{Decides}
-use Rattle.std.specs.Cmp.{unsigned_Decides, signed_Decides}
+use Rattle.std.specs.{Bool.Decides, Cmp.{unsigned_Decides, signed_Decides}}
 use Rattle.std.specs.Cmp.Lexicographic.{pointwise}
+use Rattle.guest_code.specs.Program.{Variable, Semaphore, Thread, Program, variable_view, semaphore_view, thread_view, names_view}
+use Rattle.guest_code.specs.Same.{same_variable, same_semaphore, same_thread, same_program, programs_equivalence}
+use Rattle.guest_code.specs.contracts.program.SemaphorePartialEq.TheImpl.{eq-value as semaphore-eq}
+use Rattle.guest_code.specs.contracts.program.ThreadPartialEq.TheImpl.{eq-value as thread-eq}
+use Rattle.guest_code.specs.contracts.program.VariablePartialEq.TheImpl.{eq-value as variable-eq}
+use Rattle.guest_code.proofs.InstructionEquality.{both, instruction_is}
 use Rattle.guest_code.specs.declared.program.Variable as code-variable
 use Rattle.guest_code.specs.declared.program.Semaphore as code-semaphore
 use Rattle.guest_code.specs.declared.program.Thread as code-thread
-use Rattle.guest_code.specs.contracts.program.VariablePartialEq.TheImpl.{eq-value as variable-eq}
-use Rattle.guest_code.specs.contracts.program.SemaphorePartialEq.TheImpl.{eq-value as semaphore-eq}
-use Rattle.guest_code.specs.contracts.program.ThreadPartialEq.TheImpl.{eq-value as thread-eq}
-use Rattle.guest_code.specs.Program.{Variable, Semaphore, Thread, Program, variable_view, semaphore_view, thread_view, names_view}
-use Rattle.guest_code.specs.Same.{same_variable, same_semaphore, same_thread, same_program, programs_equivalence}
-use Rattle.guest_code.proofs.InstructionEquality.{both, instruction_is}
 
 -- ---- what `==` says of what is seen
 

@@ -1,17 +1,13 @@
 -- The places of instructions, one statement after the other, and how many there are.
 use Rattle.std.proofs.Common.{◌≡◌, ℕ, zero, suc, ◌-◌, ◌*◌, ◌<◌, List, [], ◌∷◌, ◌++◌, length, slice_index_or, map, All, refl, sym, ap, ◌∙◌, arith, append_assoc, length-append}
-use Rattle.std.proofs.lemmas.List.{nil_from_length}
-use Rattle.std.proofs.lemmas.List.Elements.{All-nil, All-cons, All-append}
-use Rattle.guest_syntax.specs.declared.place.Pos.{Pos}
+use Rattle.std.proofs.lemmas.List.{nil_from_length, Elements.{All-nil, All-cons, All-append}}
 use Rattle.guest_syntax.specs.StatementPlaces.{Inside, EachPlace, IsInThread, AreInThreads}
-use Rattle.guest_syntax.specs.Tree as tree
 use Rattle.guest_syntax.specs.Tree.{Stmt, Block, Declaration, Thread, Tree}
-use Rattle.guest_code.specs.Sizes.{size, block_size}
-use Rattle.guest_code.specs.Uses.{thread_locals, tree_locals}
-use Rattle.guest_code.specs.Code.{thread_code, code}
-use Rattle.guest_code.specs.Program.{no_thread}
+use Rattle.guest_syntax.specs.declared.place.Pos.{Pos}
+use Rattle.guest_syntax.specs.Tree as tree
+use Rattle.guest_code.specs.{Code.{thread_code, code}, Program.no_thread, Sizes.{size, block_size}}
 use Rattle.guest_code.specs.SourceMap.{stmt_places, block_places, thread_places, copies, source_map, ArePlacesInThreads, IsMapOf}
-use Rattle.guest_code.proofs.CodeLengths.{block_length}
+use Rattle.guest_code.{specs.Uses.{thread_locals, tree_locals}, proofs.CodeLengths.block_length}
 
 -- ---- how many
 

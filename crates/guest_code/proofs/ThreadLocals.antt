@@ -1,9 +1,7 @@
 -- The threads of a tree without a fault, one after the other.
 use Rattle.std.proofs.Common.{◌≡◌, ℕ, zero, suc, ◌<◌, List, [], ◌∷◌, length, get_or, map, Vec, Global, arith}
-use Rattle.guest_syntax.specs.declared.tree.Thread.{Thread}
-use Rattle.guest_syntax.specs.Tree.{thread_view}
-use Rattle.guest_code.specs.Uses.{thread_locals}
-use Rattle.guest_code.specs.Program.{locals_view}
+use Rattle.guest_syntax.specs.{Tree.thread_view, declared.tree.Thread.Thread}
+use Rattle.guest_code.specs.{Program.locals_view, Uses.thread_locals}
 
 pub locals_at : (ls : List (Vec (Vec ℕ Global) Global)) (ts : List Thread) (i : ℕ)
     (y : Vec (Vec ℕ Global) Global) (x : Thread) → map locals_view ls ≡ map thread_locals

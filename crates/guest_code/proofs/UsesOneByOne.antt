@@ -1,21 +1,18 @@
 -- One declaration and one thread after the other.
 use Rattle.std.proofs.Common.{◌≡◌, ℕ, suc, ◌+◌, ◌<◌, false, List, [], ◌∷◌, ◌++◌, length, get_or, take, drop, map, Option, Some, None, Ok, Err, refl, sym, ap, ◌∙◌, arith, add-one, drop-cons, append_assoc}
-use Rattle.std.proofs.Math.Seq.{take-suc}
+use Rattle.std.{specs.Option.option_or, proofs.Math.Seq.take-suc}
 use Rattle.std.proofs.lemmas.List.{append-nil, length-map, length-take-le}
-use Rattle.guest_syntax.specs.declared.tree.Declaration.{Declaration}
-use Rattle.guest_syntax.specs.declared.tree.Thread.{Thread}
-use Rattle.guest_syntax.specs.declared.tree.Object.{Object}
+use Rattle.guest_syntax.specs.Tree.{declaration_view, thread_view, name_view, block_view}
+use Rattle.guest_syntax.specs.declared.tree.{Declaration.Declaration, Object.Object, Thread.Thread}
 use Rattle.guest_syntax.specs.declared.tree.Object.TheVariants as objects
 use Rattle.guest_syntax.specs.Tree as tree
-use Rattle.guest_syntax.specs.Tree.{declaration_view, thread_view, name_view, block_view}
-use Rattle.guest_code.specs.declared.kinds.NameKind.TheVariants as kinds
-use Rattle.guest_code.specs.declared.error.CheckError.{CheckError}
-use Rattle.guest_code.specs.Uses.{Use, declares, kind_of, block_uses, thread_uses, declarations_uses, threads_uses, uses, kind_in, how_many, thread_locals}
-use Rattle.std.specs.Option.{option_or}
 use Rattle.guest_code.specs.Fault.{declares_refusal, first}
+use Rattle.guest_code.specs.Uses.{Use, declares, kind_of, block_uses, thread_uses, declarations_uses, threads_uses, uses, kind_in, how_many, thread_locals}
+use Rattle.guest_code.specs.declared.error.CheckError.{CheckError}
 use Rattle.guest_code.specs.inner.Walk.{passed, walk, fault_of}
 use Rattle.guest_code.proofs.BodiesDeclareNothing.{block_declares_nothing, many_skips}
 use Rattle.guest_code.proofs.CheckIsFault.{first_walks, first_append, locals_append, walk_leaves}
+use Rattle.guest_code.specs.declared.kinds.NameKind.TheVariants as kinds
 
 pub passed_ok : (o : Option CheckError) (x : Unit {0}) → Ok x ≡ passed o x → o ≡ None
 passed_ok None x e = refl

@@ -1,21 +1,17 @@
 -- The program that a tree stands for.
 use Rattle.std.specs.Prelude.{ℕ, zero, suc, ◌+◌, ◌*◌, List, [], ◌∷◌, ◌++◌, length, map, filter_map, Option, Some, None, if◌then◌else◌}
 use Rattle.std.specs.Str.{bytes_eq}
+use Rattle.guest_syntax.specs.Tree.{Name, Operand, Expr, Stmt, Block, Declaration, Tree}
 use Rattle.guest_syntax.specs.declared.tree.Object.{Object}
 use Rattle.guest_syntax.specs.declared.tree.Object.TheVariants as objects
 use Rattle.guest_syntax.specs.Tree as tree
-use Rattle.guest_syntax.specs.Tree.{Name, Operand, Expr, Stmt, Block, Declaration, Tree}
-use Rattle.guest_code.specs.declared.kinds.NameKind.{NameKind}
-use Rattle.guest_code.specs.declared.kinds.NameKind.TheVariants as kinds
-use Rattle.guest_code.specs.declared.program.Value.{Value}
-use Rattle.guest_code.specs.declared.program.Value.TheVariants.{Local, Literal}
-use Rattle.guest_code.specs.declared.program.Expression.{Expression}
-use Rattle.guest_code.specs.declared.program.Expression.TheVariants.{Single, Both}
+use Rattle.guest_code.specs.{Program.{Variable, Semaphore, Thread, Program}, Sizes.block_size}
+use Rattle.guest_code.specs.{Uses.{kind_of, same, thread_locals}, declared.kinds.NameKind.NameKind}
+use Rattle.guest_code.specs.declared.program.Expression.{Expression, TheVariants.{Single, Both}}
 use Rattle.guest_code.specs.declared.program.Instruction.{Instruction}
 use Rattle.guest_code.specs.declared.program.Instruction.TheVariants.{Load, Store, Add, Cas, Lock, Unlock, Wait, Signal, Broadcast, Acquire, Release, Set, Assert, SkipIfZero, Skip}
-use Rattle.guest_code.specs.Program.{Variable, Semaphore, Thread, Program}
-use Rattle.guest_code.specs.Uses.{kind_of, same, thread_locals}
-use Rattle.guest_code.specs.Sizes.{block_size}
+use Rattle.guest_code.specs.declared.program.Value.{Value, TheVariants.{Local, Literal}}
+use Rattle.guest_code.specs.declared.kinds.NameKind.TheVariants as kinds
 
 -- ---- numbers of objects and locals
 

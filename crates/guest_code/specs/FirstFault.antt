@@ -1,8 +1,6 @@
 -- Where the first refusal is.
 use Rattle.std.specs.Prelude.{◌≡◌, List, ◌∷◌, ◌++◌, Some, None}
-use Rattle.guest_code.specs.declared.error.CheckError.{CheckError}
-use Rattle.guest_code.specs.Uses.{Use}
-use Rattle.guest_code.specs.Fault.{refusal}
+use Rattle.guest_code.specs.{Fault.refusal, Uses.Use, declared.error.CheckError.CheckError}
 
 -- one of these uses gets this refusal, and none in front of it gets any; `before` are in front of
 -- all of them

@@ -2,12 +2,10 @@
 use Rattle.std.specs.Prelude.{ℕ, ℤ, pos, ◌+◌, ◌<◌, ◌≤◌, List, [], map, length, slice_index_or, All}
 use Rattle.std.proofs.Common.{Vec, Global}
 use Rattle.guest_code.specs.declared.limits.TheConstants.{THREADS, VARIABLES, OBJECTS, LOCALS, INSTRUCTIONS, COUNT}
-use Rattle.guest_code.specs.declared.program.Value.{Value}
-use Rattle.guest_code.specs.declared.program.Value.TheVariants.{Local, Literal}
-use Rattle.guest_code.specs.declared.program.Expression.{Expression}
-use Rattle.guest_code.specs.declared.program.Expression.TheVariants.{Single, Both}
+use Rattle.guest_code.specs.declared.program.Expression.{Expression, TheVariants.{Single, Both}}
 use Rattle.guest_code.specs.declared.program.Instruction.{Instruction}
 use Rattle.guest_code.specs.declared.program.Instruction.TheVariants.{Load, Store, Add, Cas, Lock, Unlock, Wait, Signal, Broadcast, Acquire, Release, Set, Assert, SkipIfZero, Skip}
+use Rattle.guest_code.specs.declared.program.Value.{Value, TheVariants.{Local, Literal}}
 use Rattle.guest_code.specs.declared.program.Variable as code-variable
 use Rattle.guest_code.specs.declared.program.Semaphore as code-semaphore
 use Rattle.guest_code.specs.declared.program.Thread as code-thread

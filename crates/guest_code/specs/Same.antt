@@ -1,12 +1,11 @@
 -- When two programs are the same: `==` on each of the parts.
 use Rattle.std.specs.Prelude.{Bool, nat_eq}
 use Rattle.std.specs.Cmp.{IsEquivalence, IsPartialEquivalence, partial_equiv_from_equiv, and_equiv, on_equiv, nat_eq_equiv, int_eq_equiv}
-use Rattle.std.specs.Cmp.Lexicographic.{pointwise, lists_equiv}
-use Rattle.std.specs.Ordering.{on, eq_of_both, int_eq}
-use Rattle.guest_code.specs.declared.program.Instruction.{Instruction}
-use Rattle.guest_code.specs.contracts.program.InstructionPartialEq.TheImpl.{eq-value}
-use Rattle.guest_code.specs.contracts.program.InstructionEq.TheImpl.Laws.{laws-law}
+use Rattle.std.specs.{Cmp.Lexicographic.{pointwise, lists_equiv}, Ordering.{on, eq_of_both, int_eq}}
 use Rattle.guest_code.specs.Program.{Variable, Semaphore, Thread, Program}
+use Rattle.guest_code.specs.contracts.program.InstructionEq.TheImpl.Laws.{laws-law}
+use Rattle.guest_code.specs.contracts.program.InstructionPartialEq.TheImpl.{eq-value}
+use Rattle.guest_code.specs.declared.program.Instruction.{Instruction}
 
 -- `==` of instructions, which is derived
 abbrev pub same_instruction : Instruction → Instruction → Bool

@@ -1,12 +1,10 @@
 -- The places of a text that the code of its program was made of, and the names of its locals.
 use Rattle.std.specs.Prelude.{◌≡◌, ℕ, zero, suc, List, [], ◌∷◌, ◌++◌, length, map, slice_index_or, All}
 use Rattle.std.proofs.Common.{Vec, Global}
+use Rattle.guest_syntax.specs.{StatementPlaces.IsInThread, Tree.{Stmt, Block, Thread, Tree}}
 use Rattle.guest_syntax.specs.declared.place.Pos.{Pos}
 use Rattle.guest_syntax.specs.Tree as tree
-use Rattle.guest_syntax.specs.Tree.{Stmt, Block, Thread, Tree}
-use Rattle.guest_syntax.specs.StatementPlaces.{IsInThread}
-use Rattle.guest_code.specs.Program.{Program, names_view, thread_at}
-use Rattle.guest_code.specs.Uses.{tree_locals}
+use Rattle.guest_code.specs.{Program.{Program, names_view, thread_at}, Uses.tree_locals}
 
 -- of each thread the places, in the order of its instructions, and the names of its locals, in the
 -- order of their numbers

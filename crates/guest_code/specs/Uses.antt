@@ -1,11 +1,10 @@
 -- The uses of names in a text, in text order, and what they say of a name.
 use Rattle.std.specs.Prelude.{ℕ, suc, map, List, [], ◌∷◌, ◌++◌, if◌then◌else◌, Bool, true, false, ◌||◌, Option, Some, None}
 use Rattle.std.specs.Str.{bytes_eq}
-use Rattle.guest_syntax.specs.declared.place.Pos.{Pos}
-use Rattle.guest_syntax.specs.declared.tree.Object.{Object}
+use Rattle.guest_syntax.specs.Tree.{Name, Operand, Expr, Stmt, Block, Declaration, Thread, Tree}
+use Rattle.guest_syntax.specs.declared.{place.Pos.Pos, tree.Object.Object}
 use Rattle.guest_syntax.specs.declared.tree.Object.TheVariants as objects
 use Rattle.guest_syntax.specs.Tree as tree
-use Rattle.guest_syntax.specs.Tree.{Name, Operand, Expr, Stmt, Block, Declaration, Thread, Tree}
 use Rattle.guest_code.specs.declared.kinds.NameKind.{NameKind}
 use Rattle.guest_code.specs.declared.kinds.NameKind.TheVariants as kinds
 

@@ -2,13 +2,12 @@
 
 ghost use Rattle.std.specs.Prelude.{◌≡◌, ◌≤◌, [], ◌∷◌, ◌++◌, length, map, IfOk, Ok, Err, cond, true, false};
 ghost use Rattle.guest_syntax.specs.Tree.{name_view, operand_view, expr_view, stmt_view, block_view, thread_view, tree_view};
-ghost use Rattle.guest_code.specs.Program.{names_view, locals_view};
-ghost use Rattle.guest_code.specs.Uses as used;
-ghost use Rattle.guest_code.specs.Uses.{object, kind_in, how_many, knows, operand_uses, expr_uses, stmt_uses, block_uses, threads_uses, tree_locals};
 ghost use Rattle.guest_code.specs.Fault.{declares_refusal, refusal, first, first_of_names, fault};
+ghost use Rattle.guest_code.specs.Program.{names_view, locals_view};
+ghost use Rattle.guest_code.specs.Uses.{object, kind_in, how_many, knows, operand_uses, expr_uses, stmt_uses, block_uses, threads_uses, tree_locals};
+ghost use Rattle.guest_code.specs.declared.{error.CheckError.CheckError, kinds.NameKind.NameKind};
 ghost use Rattle.guest_code.specs.inner.Walk.{all_uses, declared_in, uses_of, passed, Answers, Meets, Finds};
-ghost use Rattle.guest_code.specs.declared.error.CheckError.{CheckError};
-ghost use Rattle.guest_code.specs.declared.kinds.NameKind.{NameKind};
+ghost use Rattle.guest_code.specs.Uses as used;
 
 use crate::error::CheckError;
 use crate::kinds::{NameKind, kind_of};

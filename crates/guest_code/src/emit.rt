@@ -2,10 +2,9 @@
 
 ghost use Rattle.std.specs.Prelude.{◌≡◌, ◌+◌, ◌*◌, ◌<◌, ◌≤◌, ◌^◌, [], ◌∷◌};
 ghost use Rattle.guest_syntax.specs.Tree.{if_then, if_else, name_view, operand_view, expr_view, stmt_view, block_view};
-ghost use Rattle.guest_code.specs.Sizes.{size};
 ghost use Rattle.guest_code.specs.Code.{variable_number, mutex_number, condition_number, local_number, value_of, expression_of};
+ghost use Rattle.guest_code.specs.{Sizes.size, declared.program.Instruction.Instruction};
 ghost use Rattle.guest_code.specs.inner.Emission.{names_of, size_of, Adds, stmt_code_in, block_code_in, copies_of};
-ghost use Rattle.guest_code.specs.declared.program.Instruction.{Instruction};
 
 use crate::lengths::{size_of_block, size_of_statement};
 use crate::limits::INSTRUCTIONS;

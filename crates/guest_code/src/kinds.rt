@@ -1,8 +1,7 @@
 //! What names are declared as.
 
 ghost use Rattle.std.specs.Prelude.{◌≡◌};
-ghost use Rattle.guest_code.specs.Uses.{kind_of, same};
-ghost use Rattle.guest_code.specs.Fault.{limit_of};
+ghost use Rattle.guest_code.specs.{Fault.limit_of, Uses.{kind_of, same}};
 
 use crate::limits::{OBJECTS, THREADS, VARIABLES};
 use guest_syntax::tree::Object;

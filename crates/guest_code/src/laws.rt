@@ -1,14 +1,11 @@
 //! Laws, each the contract of a function that does nothing.
 
 ghost use Rattle.std.specs.Prelude.{◌≡◌, ℕ, List, [], Some};
-ghost use Rattle.guest_syntax.specs.declared.limits.TheConstants as texts;
-ghost use Rattle.guest_code.specs.Program.{IsWellFormed};
-ghost use Rattle.guest_code.specs.Uses.{Use};
-ghost use Rattle.guest_code.specs.Fault.{first};
-ghost use Rattle.guest_code.specs.FirstFault.{IsFirstFault};
-ghost use Rattle.guest_code.specs.SourceMap.{ArePlacesInThreads};
 ghost use Rattle.guest_syntax.specs.Grammar.{Spells};
+ghost use Rattle.guest_syntax.specs.declared.limits.TheConstants as texts;
 ghost use Rattle.guest_syntax.specs.Tree as model;
+ghost use Rattle.guest_code.specs.{Fault.first, FirstFault.IsFirstFault, Program.IsWellFormed};
+ghost use Rattle.guest_code.specs.{SourceMap.ArePlacesInThreads, Uses.Use};
 ghost use Rattle.guest_code.specs.declared.error.CheckError.{CheckError};
 
 use crate::limits::{COUNT, INSTRUCTIONS, LOCALS, OBJECTS, THREADS, VARIABLES};

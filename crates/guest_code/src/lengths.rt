@@ -2,9 +2,7 @@
 
 ghost use Rattle.std.specs.Prelude.{◌≡◌, ◌+◌, ◌≤◌, length, map, min};
 ghost use Rattle.guest_syntax.specs.Tree.{stmt_view, block_view, thread_view};
-ghost use Rattle.guest_code.specs.Sizes.{size, block_size};
-ghost use Rattle.guest_code.specs.Fault.{too_long};
-ghost use Rattle.guest_code.specs.inner.Walk.{passed};
+ghost use Rattle.guest_code.specs.{Fault.too_long, Sizes.{size, block_size}, inner.Walk.passed};
 
 use crate::error::CheckError;
 use crate::limits::{INSTRUCTIONS, THREADS};

@@ -2,9 +2,8 @@
 
 ghost use Rattle.std.specs.Prelude.{◌≡◌, map};
 ghost use Rattle.guest_syntax.specs.Tree.{name_view, operand_view, expr_view, declaration_view};
-ghost use Rattle.guest_code.specs.Program.{names_view};
 ghost use Rattle.guest_code.specs.Code.{object_index, local_index, variable_number, mutex_number, condition_number, semaphore_number, local_number, value_of, expression_of};
-ghost use Rattle.guest_code.specs.inner.Emission.{names_of};
+ghost use Rattle.guest_code.specs.{Program.names_view, inner.Emission.names_of};
 
 use crate::kinds::{NameKind, kind_of};
 use crate::program::{Expression, Value};

@@ -1,10 +1,8 @@
 //! Where in its text the code of a program comes from.
 
 ghost use Rattle.std.specs.Prelude.{◌≡◌, ◌<◌, [], ◌++◌, None, length, map, slice_index_or, IfOk, MatchResult, OnOk};
-ghost use Rattle.guest_syntax.specs.Place.{start};
-ghost use Rattle.guest_syntax.specs.Tree.{stmt_view, block_view, tree_view};
-ghost use Rattle.guest_code.specs.Fault.{fault, Refuses};
-ghost use Rattle.guest_code.specs.Code.{code};
+ghost use Rattle.guest_syntax.specs.{Place.start, Tree.{stmt_view, block_view, tree_view}};
+ghost use Rattle.guest_code.specs.{Code.code, Fault.{fault, Refuses}};
 ghost use Rattle.guest_code.specs.SourceMap.{stmt_places, block_places, copies, source_map, source_map_view, places_of, locals_of, IsMapOf};
 
 use crate::check::check;

@@ -1,14 +1,11 @@
 -- What is passed over is blank, and what is blank is passed over.
-use Rattle.std.proofs.Common.{◌≡◌, ℕ, ◌<◌, Bool, true, false, cond, not, List, [], ◌∷◌, ◌++◌, Option, Some, None, refl, sym, ap, subst, ◌∙◌, ◌≤◌, arith}
 use Rattle.std.specs.Prelude.{nat_le, ◌==◌}
-use Rattle.std.specs.List.{AllByRecursion}
-use Rattle.std.proofs.lemmas.Bool.{leb-false, le-leb, lt-leb}
+use Rattle.std.proofs.Common.{◌≡◌, ℕ, ◌<◌, Bool, true, false, cond, not, List, [], ◌∷◌, ◌++◌, Option, Some, None, refl, sym, ap, subst, ◌∙◌, ◌≤◌, arith}
+use Rattle.std.{specs.List.AllByRecursion, proofs.lemmas.Bool.{leb-false, le-leb, lt-leb}}
+use Rattle.guest_syntax.specs.{Place.{past, after, Follows}, Tokens.{is_space, blank}}
 use Rattle.guest_syntax.specs.declared.place.Pos.{Pos}
-use Rattle.guest_syntax.specs.Place.{past, after, Follows}
 use Rattle.guest_syntax.specs.reader.BlankBytes.{Step, Passed, Stops, NotAscii, gap_step}
-use Rattle.guest_syntax.specs.Tokens.{is_space, blank}
-use Rattle.guest_syntax.specs.reader.Scanner.{skip_by, skipped}
-use Rattle.guest_syntax.proofs.OptionCases.{some_is}
+use Rattle.guest_syntax.{specs.reader.Scanner.{skip_by, skipped}, proofs.OptionCases.some_is}
 
 abbrev pub Ascii : List ℕ → Type 0
 Ascii = AllByRecursion (λ b. b < 128)

@@ -1,12 +1,11 @@
 -- Where the blocks of a text close.
-use Rattle.std.proofs.Common.{◌≡◌, ℕ, ◌+◌, ◌-◌, ◌<◌, ◌≤◌, Bool, true, false, List, [], ◌∷◌, ◌++◌, length, get_or, take, drop, Option, Some, None, refl, ap, sym, ◌∙◌, arith, add-one, drop-cons}
 use Rattle.std.specs.Prelude.{codes, ◌==◌, if◌then◌else◌}
-use Rattle.std.specs.Option.{option_and_then}
-use Rattle.std.proofs.lemmas.Bool.Decides.{nat_tests}
+use Rattle.std.proofs.Common.{◌≡◌, ℕ, ◌+◌, ◌-◌, ◌<◌, ◌≤◌, Bool, true, false, List, [], ◌∷◌, ◌++◌, length, get_or, take, drop, Option, Some, None, refl, ap, sym, ◌∙◌, arith, add-one, drop-cons}
+use Rattle.std.{specs.Option.option_and_then, proofs.lemmas.Bool.Decides.nat_tests}
 use Rattle.std.proofs.lemmas.List.{length-take-le, take-append-drop, take_all, take_more}
 use Rattle.std.proofs.lemmas.Slice.Eq.{bytes_eq-Decides}
-use Rattle.guest_syntax.specs.declared.pieces.Piece.{Piece}
 use Rattle.guest_syntax.specs.Pieces.{is_mark, open_after, all_open_after, ClosesAt}
+use Rattle.guest_syntax.specs.declared.pieces.Piece.{Piece}
 
 open_append_by : (ps qs : List Piece) (o : Option ℕ)
     → ((n : ℕ) → all_open_after (ps ++ qs) n

@@ -1,11 +1,8 @@
 -- Spaces and comments, as a loop passes over them.
 use Rattle.std.proofs.Common.{◌≡◌, ℕ, ◌+◌, ◌-◌, ◌<◌, ◌≤◌, Bool, List, length, get_or, take, drop, Some, refl, arith, add-one, drop-cons, length-drop}
-use Rattle.std.proofs.lemmas.List.{take_all, drop_all}
-use Rattle.std.proofs.Math.Seq.{drop-length}
-use Rattle.guest_syntax.specs.declared.place.Pos.{Pos}
-use Rattle.guest_syntax.specs.Place.{past, after}
-use Rattle.guest_syntax.specs.reader.BlankBytes.{Step, gap_step}
-use Rattle.guest_syntax.specs.reader.Scanner.{skip_by, skipped}
+use Rattle.std.proofs.{Math.Seq.drop-length, lemmas.List.{take_all, drop_all}}
+use Rattle.guest_syntax.specs.{Place.{past, after}, declared.place.Pos.Pos}
+use Rattle.guest_syntax.specs.reader.{BlankBytes.{Step, gap_step}, Scanner.{skip_by, skipped}}
 
 -- &s[i..]
 pub from_at : {A : Type 0} (s : List A) (i : ℕ) → take (length s - i) (drop i s) ≡ drop i s

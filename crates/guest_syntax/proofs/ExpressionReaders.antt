@@ -1,22 +1,19 @@
 -- Operands and expressions: what was read is spelled so, and what is spelled so is read.
-use Rattle.std.proofs.Common.{◌≡◌, ℤ, true, false, inl, inr, List, ◌∷◌, Option, Some, None, refl, sym, ap, subst, ◌∙◌}
 use Rattle.std.specs.Prelude.{nat_le, pos}
+use Rattle.std.proofs.Common.{◌≡◌, ℤ, true, false, inl, inr, List, ◌∷◌, Option, Some, None, refl, sym, ap, subst, ◌∙◌}
 use Rattle.std.proofs.lemmas.Bool.{leb-true, le-leb}
-use Rattle.guest_syntax.specs.declared.limits.TheConstants.{NUMBER}
-use Rattle.guest_syntax.specs.declared.place.Pos.{Pos}
-use Rattle.guest_syntax.specs.declared.token.Symbol.{Symbol}
-use Rattle.guest_syntax.specs.declared.token.Symbol.TheVariants as symbols
-use Rattle.guest_syntax.specs.declared.tree.Op.{Op}
-use Rattle.guest_syntax.specs.declared.tree.Op.TheVariants as ops
+use Rattle.guest_syntax.specs.{Forms.{IsToken, IsLiteral}, Grammar.{IsOperand, IsOp, IsExpr}}
 use Rattle.guest_syntax.specs.Tokens.{TokenKind, name, number, symbol, Token}
 use Rattle.guest_syntax.specs.Tree.{Operand, local, literal, Expr, single, both}
-use Rattle.guest_syntax.specs.Forms.{IsToken, IsLiteral}
-use Rattle.guest_syntax.specs.Grammar.{IsOperand, IsOp, IsExpr}
-use Rattle.guest_syntax.specs.reader.SingleTokens.{is_bad, token_at, number_from}
+use Rattle.guest_syntax.specs.declared.limits.TheConstants.{NUMBER}
+use Rattle.guest_syntax.specs.declared.{place.Pos.Pos, token.Symbol.Symbol, tree.Op.Op}
 use Rattle.guest_syntax.specs.reader.Expressions.{negated, literal_by, literal_from, operand_by, operand_from, op_of, expr_by, expr_from}
+use Rattle.guest_syntax.specs.reader.SingleTokens.{is_bad, token_at, number_from}
 use Rattle.guest_syntax.specs.reader.Statements.{is_else}
 use Rattle.guest_syntax.proofs.OptionCases.{bind_some, some_is, cond_ok}
 use Rattle.guest_syntax.proofs.TokenReaders.{token_takes, token_again, kind_again, kind_takes, number_takes, number_again}
+use Rattle.guest_syntax.specs.declared.token.Symbol.TheVariants as symbols
+use Rattle.guest_syntax.specs.declared.tree.Op.TheVariants as ops
 
 -- ---- literals
 

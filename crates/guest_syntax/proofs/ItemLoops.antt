@@ -1,12 +1,9 @@
 -- Items one after the other, as a loop reads them.
 use Rattle.std.proofs.Common.{◌≡◌, ℕ, zero, suc, ◌<◌, List, [], ◌∷◌, ◌++◌, length, map, Some, None, refl, sym, ap, ◌∙◌, append_assoc, arith}
 use Rattle.std.proofs.lemmas.List.{append-nil, map_push}
-use Rattle.guest_syntax.specs.declared.error.SyntaxError.{SyntaxError}
-use Rattle.guest_syntax.specs.Tokens.{Token}
-use Rattle.guest_syntax.specs.reader.Gives.{Fails}
-use Rattle.guest_syntax.specs.reader.Scanner.{◌>>=◌}
-use Rattle.guest_syntax.specs.reader.Reads.{Read}
-use Rattle.guest_syntax.specs.reader.Items.{Turn, many_by, many, all_from}
+use Rattle.guest_syntax.specs.{Tokens.Token, declared.error.SyntaxError.SyntaxError}
+use Rattle.guest_syntax.specs.reader.{Gives.Fails, Items.{Turn, many_by, many, all_from}}
+use Rattle.guest_syntax.specs.reader.{Reads.Read, Scanner.◌>>=◌}
 use Rattle.guest_syntax.proofs.NextToken.{fails_then}
 
 -- what was read before, and what is still read

@@ -1,7 +1,6 @@
 -- The longest front of bytes that pass a test.
 use Rattle.std.proofs.Common.{◌≡◌, ℕ, ◌+◌, Bool, true, false, cond, List, [], ◌∷◌, ◌++◌, length, take, drop, refl, ap, subst, one-add}
-use Rattle.std.specs.Cmp.Derive.{both_true}
-use Rattle.std.specs.List.{prefix_len, list_all}
+use Rattle.std.specs.{Cmp.Derive.both_true, List.{prefix_len, list_all}}
 use Rattle.guest_syntax.proofs.ByteClasses.{and_parts}
 
 -- each of the front passes, and the first after it does not

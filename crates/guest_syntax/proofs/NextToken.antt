@@ -1,20 +1,16 @@
 -- The next token of a list is the first of the bytes.
-use Rattle.std.proofs.Common.{◌≡◌, ℕ, ◌<◌, false, List, [], length, Option, Some, None, option_map, refl, arith}
 use Rattle.std.specs.Prelude.{IfSome, IsSome}
-use Rattle.guest_syntax.specs.declared.place.Pos.{Pos}
-use Rattle.guest_syntax.specs.declared.error.SyntaxError.{SyntaxError}
-use Rattle.guest_syntax.specs.declared.error.SyntaxError.TheVariants as errors
-use Rattle.guest_syntax.specs.declared.tokens.Reader.{Reader}
-use Rattle.guest_syntax.specs.declared.token.Token.{Token}
-use Rattle.guest_syntax.specs.declared.token.TokenKind.{TokenKind}
-use Rattle.guest_syntax.specs.declared.token.TokenKind.TheVariants as kinds
-use Rattle.guest_syntax.specs.reader.TokenViews.{kind_view, token_view}
-use Rattle.guest_syntax.specs.Answers.{is_token}
-use Rattle.guest_syntax.specs.reader.Gives.{Fails}
-use Rattle.guest_syntax.specs.reader.Scanner.{skipped, first, scan, tokens_from}
+use Rattle.std.proofs.Common.{◌≡◌, ℕ, ◌<◌, false, List, [], length, Option, Some, None, option_map, refl, arith}
+use Rattle.guest_syntax.specs.{Answers.is_token, declared.error.SyntaxError.SyntaxError}
+use Rattle.guest_syntax.specs.declared.{place.Pos.Pos, token.Token.Token, token.TokenKind.TokenKind}
+use Rattle.guest_syntax.specs.{declared.tokens.Reader.Reader, reader.Gives.Fails}
 use Rattle.guest_syntax.specs.reader.Reads.{IsPlaceOf, IsTokenOf}
+use Rattle.guest_syntax.specs.reader.Scanner.{skipped, first, scan, tokens_from}
 use Rattle.guest_syntax.specs.reader.SingleTokens.{is_bad, next_at}
+use Rattle.guest_syntax.specs.reader.TokenViews.{kind_view, token_view}
 use Rattle.guest_syntax.proofs.ScannerProgress.{tokens_first}
+use Rattle.guest_syntax.specs.declared.error.SyntaxError.TheVariants as errors
+use Rattle.guest_syntax.specs.declared.token.TokenKind.TheVariants as kinds
 
 -- a fault stays a fault
 pub fails_then : {A B : Type 0} (e : SyntaxError) (o : Option A) (p : Option B)

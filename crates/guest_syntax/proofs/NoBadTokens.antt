@@ -1,15 +1,14 @@
 -- A form puts tokens before others, and none of them is `bad`.
 use Rattle.std.proofs.Common.{◌≡◌, ℕ, false, inl, inr, List, [], ◌∷◌, ◌++◌, refl, sym, ap, subst, ◌∙◌, append_assoc, ℤ}
 use Rattle.std.proofs.lemmas.List.{append-nil}
-use Rattle.guest_syntax.specs.Tokens.{TokenKind, name, number, Token}
-use Rattle.guest_syntax.specs.declared.tree.Op.{Op}
-use Rattle.guest_syntax.specs.declared.tree.Op.TheVariants as ops
-use Rattle.guest_syntax.specs.declared.tree.Object.{Object}
-use Rattle.guest_syntax.specs.declared.tree.Object.TheVariants as objects
-use Rattle.guest_syntax.specs.Tree.{Name, Operand, local, literal, Expr, single, both, Stmt, load, store, add, cas, wait, set, assert, if_then, if_else, repeat, leave, Block, nothing, next, Declaration, Thread, Tree}
 use Rattle.guest_syntax.specs.Forms.{Form, ◌then◌, IsToken, IsName, IsNumber, IsEnd, IsLiteral, in_braces, each}
 use Rattle.guest_syntax.specs.Grammar.{IsOperand, IsOp, IsExpr, IsTimes, IsStatement, AreStatements, IsBlock, IsObject, IsDeclaration, IsThread, IsTree}
+use Rattle.guest_syntax.specs.Tokens.{TokenKind, name, number, Token}
+use Rattle.guest_syntax.specs.Tree.{Name, Operand, local, literal, Expr, single, both, Stmt, load, store, add, cas, wait, set, assert, if_then, if_else, repeat, leave, Block, nothing, next, Declaration, Thread, Tree}
+use Rattle.guest_syntax.specs.declared.tree.{Object.Object, Op.Op}
 use Rattle.guest_syntax.specs.reader.SingleTokens.{is_bad}
+use Rattle.guest_syntax.specs.declared.tree.Op.TheVariants as ops
+use Rattle.guest_syntax.specs.declared.tree.Object.TheVariants as objects
 
 abbrev pub Clean : List Token → Type 0
 Clean [] = Unit {0}

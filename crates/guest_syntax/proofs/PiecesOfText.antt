@@ -1,13 +1,10 @@
 -- The pieces of a text: what is left out, and what a piece is.
-use Rattle.std.proofs.Common.{◌≡◌, ℕ, ◌<◌, Bool, true, false, cond, not, List, [], ◌∷◌, ◌++◌, length, take, drop, Option, Some, None, refl, arith}
 use Rattle.std.specs.Prelude.{◌==◌}
+use Rattle.std.proofs.Common.{◌≡◌, ℕ, ◌<◌, Bool, true, false, cond, not, List, [], ◌∷◌, ◌++◌, length, take, drop, Option, Some, None, refl, arith}
 use Rattle.std.specs.Option.{option_and_then}
-use Rattle.guest_syntax.specs.Tokens.{TokenKind, is_space, blank}
-use Rattle.guest_syntax.specs.Pieces.{IsWhole, IsStray}
-use Rattle.guest_syntax.specs.reader.Scanner.{kind_at}
-use Rattle.guest_syntax.proofs.ScannerProgress.{kind_has_bytes}
-use Rattle.guest_syntax.proofs.TokenSpelling.{kind_reads}
-use Rattle.guest_syntax.proofs.RefusalPlaces.{begins_none}
+use Rattle.guest_syntax.specs.{Pieces.{IsWhole, IsStray}, Tokens.{TokenKind, is_space, blank}}
+use Rattle.guest_syntax.{specs.reader.Scanner.kind_at, proofs.RefusalPlaces.begins_none}
+use Rattle.guest_syntax.proofs.{ScannerProgress.kind_has_bytes, TokenSpelling.kind_reads}
 
 -- ---- a piece
 

@@ -1,14 +1,12 @@
 -- Places of a text: what follows what follows it, and what a cursor knows of its place.
 use Rattle.std.proofs.Common.{◌≡◌, ℕ, ◌+◌, ◌-◌, ◌<◌, List, [], ◌∷◌, ◌++◌, length, take, drop, refl, sym, ap, subst, ◌∙◌, append_assoc, arith, length-append, get_or, add-one, drop-cons}
 use Rattle.std.proofs.lemmas.List.{take_at, drop_at, take-append-drop}
-use Rattle.guest_syntax.specs.declared.place.Pos.{Pos}
-use Rattle.guest_syntax.specs.declared.cursor.Cursor.{Cursor}
-use Rattle.guest_syntax.specs.declared.token.Symbol.TheVariants.{Open}
-use Rattle.guest_syntax.specs.Tokens.{TokenKind, number, symbol}
-use Rattle.guest_syntax.specs.declared.error.SyntaxError.{SyntaxError}
-use Rattle.guest_syntax.specs.declared.error.SyntaxError.TheVariants as errors
-use Rattle.guest_syntax.specs.Place.{start, past, after, Follows}
 use Rattle.guest_syntax.specs.Answers.{IsTokenIn, IsTokenOrEnd, is_end, is_token, RefusalIn}
+use Rattle.guest_syntax.specs.Place.{start, past, after, Follows}
+use Rattle.guest_syntax.specs.{Tokens.{TokenKind, number, symbol}, declared.cursor.Cursor.Cursor}
+use Rattle.guest_syntax.specs.declared.{error.SyntaxError.SyntaxError, place.Pos.Pos}
+use Rattle.guest_syntax.specs.declared.token.Symbol.TheVariants.{Open}
+use Rattle.guest_syntax.specs.declared.error.SyntaxError.TheVariants as errors
 
 after_append : (a b : List ℕ) (at : Pos) → after at (a ++ b) ≡ after (after at a) b
 unfolding after

@@ -1,21 +1,17 @@
 -- What is at the place of a refusal.
-use Rattle.std.proofs.Common.{◌≡◌, ℕ, zero, suc, ◌<◌, Bool, true, false, List, [], ◌∷◌, ◌++◌, length, take, drop, Option, Some, None, option_map, refl, sym, ap, subst, ◌∙◌, arith}
 use Rattle.std.specs.Prelude.{nat_eq, ◌==◌}
+use Rattle.std.proofs.Common.{◌≡◌, ℕ, zero, suc, ◌<◌, Bool, true, false, List, [], ◌∷◌, ◌++◌, length, take, drop, Option, Some, None, option_map, refl, sym, ap, subst, ◌∙◌, arith}
 use Rattle.std.specs.List.{list_all, starts_with, AllByRecursion}
-use Rattle.std.proofs.lemmas.Bool.Decides.{Decides-eqb}
-use Rattle.std.proofs.lemmas.List.{take_at, take-append-drop}
+use Rattle.std.proofs.lemmas.{Bool.Decides.Decides-eqb, List.{take_at, take-append-drop}}
 use Rattle.std.proofs.lemmas.Slice.Eq.{slice_eq-Decides}
-use Rattle.guest_syntax.specs.declared.place.Pos.{Pos}
-use Rattle.guest_syntax.specs.declared.token.Symbol.{Symbol}
-use Rattle.guest_syntax.specs.declared.token.Symbol.TheVariants as symbols
-use Rattle.guest_syntax.specs.declared.token.TheConstants.{SYMBOLS}
-use Rattle.guest_syntax.specs.Place.{Follows}
-use Rattle.guest_syntax.specs.Answers.{IsTokenIn, BeginsNone, IsBadCharAt}
+use Rattle.guest_syntax.specs.{Answers.{IsTokenIn, BeginsNone, IsBadCharAt}, Place.Follows}
 use Rattle.guest_syntax.specs.Tokens.{TokenKind, name, keyword, number, symbol, bad, IsIdentifier, symbol_text, is_letter, is_digit}
+use Rattle.guest_syntax.specs.declared.{place.Pos.Pos, token.Symbol.Symbol}
+use Rattle.guest_syntax.specs.declared.token.TheConstants.{SYMBOLS}
 use Rattle.guest_syntax.specs.reader.Scanner.{skipped, symbol_at, kind_by, kind_at}
-use Rattle.guest_syntax.proofs.ByteClasses.{and_parts}
-use Rattle.guest_syntax.proofs.BlankRuns.{skip_takes, stops_ascii}
+use Rattle.guest_syntax.proofs.{BlankRuns.{skip_takes, stops_ascii}, ByteClasses.and_parts}
 use Rattle.guest_syntax.proofs.TokenSpelling.{kind_reads, keyword_is_identifier, find_none, false_true}
+use Rattle.guest_syntax.specs.declared.token.Symbol.TheVariants as symbols
 
 pub some_bytes : (n : ℕ) → false ≡ (n == 0) → 0 < n
 some_bytes zero e = absurd cc

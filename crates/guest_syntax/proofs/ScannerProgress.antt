@@ -1,14 +1,13 @@
 -- The scanner goes on.
 use Rattle.std.proofs.Common.{◌≡◌, ℕ, zero, suc, ◌<◌, ◌≤◌, Bool, true, false, ◌||◌, List, [], ◌∷◌, length, Option, Some, None, refl, ap, ◌∙◌, arith, length-drop}
 use Rattle.std.specs.List.{prefix_len}
-use Rattle.guest_syntax.specs.declared.place.Pos.{Pos}
-use Rattle.guest_syntax.specs.declared.token.Symbol.{Symbol}
-use Rattle.guest_syntax.specs.declared.token.Symbol.TheVariants as symbols
 use Rattle.guest_syntax.specs.Place.{past}
-use Rattle.guest_syntax.specs.reader.BlankBytes.{Step, Passed, Stops, NotAscii, gap_step}
 use Rattle.guest_syntax.specs.Tokens.{TokenKind, symbol, Token, is_letter, is_digit, is_name_byte, symbol_text}
+use Rattle.guest_syntax.specs.declared.{place.Pos.Pos, token.Symbol.Symbol}
+use Rattle.guest_syntax.specs.reader.BlankBytes.{Step, Passed, Stops, NotAscii, gap_step}
 use Rattle.guest_syntax.specs.reader.Scanner.{skip_by, skipped, symbol_at, kind_by, kind_at, first_from, first, scan_with, scan, tokens_from}
 use Rattle.guest_syntax.proofs.OptionCases.{bind_some, map_some, some_is}
+use Rattle.guest_syntax.specs.declared.token.Symbol.TheVariants as symbols
 
 skip_by_len : (b : ℕ) (bs : List ℕ) (at : Pos) (x : Pos × List ℕ) (s : Step)
     (more : Bool → Option (Pos × List ℕ))

@@ -1,24 +1,20 @@
 -- Statements and blocks: what was read is spelled so, and what is spelled so is read.
 use Rattle.std.proofs.Common.{◌≡◌, ℕ, zero, suc, ◌<◌, Bool, true, false, List, [], ◌∷◌, length, Option, Some, None, refl, sym, ap, subst, arith}
-use Rattle.guest_syntax.specs.declared.place.Pos.{Pos}
-use Rattle.guest_syntax.specs.declared.token.Keyword.{Keyword}
-use Rattle.guest_syntax.specs.declared.token.Symbol.{Symbol}
-use Rattle.guest_syntax.specs.declared.token.Keyword.TheVariants as keywords
-use Rattle.guest_syntax.specs.declared.token.Symbol.TheVariants as symbols
-use Rattle.guest_syntax.specs.Tokens.{TokenKind, keyword, symbol, Token}
-use Rattle.guest_syntax.specs.reader.Scanner.{◌>>=◌}
-use Rattle.guest_syntax.specs.Tree.{Name, Operand, Expr, Stmt, load, store, add, cas, lock, unlock, wait, signal, broadcast, acquire, release, set, assert, if_then, if_else, repeat, leave, Block, nothing, next, Placed, block_of}
 use Rattle.guest_syntax.specs.Forms.{Form, ◌then◌, IsTokenAt, IsToken, IsName, IsEnd, BeginsAt, placed_at, in_braces}
 use Rattle.guest_syntax.specs.Grammar.{IsOperand, IsExpr, IsTimes, IsStatement, AreStatements, IsBlock}
-use Rattle.guest_syntax.specs.reader.Reads.{Read}
-use Rattle.guest_syntax.specs.reader.SingleTokens.{token_at, symbol_from, name_from, times_from}
+use Rattle.guest_syntax.specs.Tokens.{TokenKind, keyword, symbol, Token}
+use Rattle.guest_syntax.specs.Tree.{Name, Operand, Expr, Stmt, load, store, add, cas, lock, unlock, wait, signal, broadcast, acquire, release, set, assert, if_then, if_else, repeat, leave, Block, nothing, next, Placed, block_of}
+use Rattle.guest_syntax.specs.declared.{place.Pos.Pos, token.Keyword.Keyword, token.Symbol.Symbol}
 use Rattle.guest_syntax.specs.reader.Expressions.{operand_from, op_of, expr_from}
-use Rattle.guest_syntax.specs.reader.Items.{Turn, many_by, many, all_from}
+use Rattle.guest_syntax.specs.reader.{Items.{Turn, many_by, many, all_from}, Reads.Read}
+use Rattle.guest_syntax.specs.reader.Scanner.{◌>>=◌}
+use Rattle.guest_syntax.specs.reader.SingleTokens.{token_at, symbol_from, name_from, times_from}
 use Rattle.guest_syntax.specs.reader.Statements.{is_else, one_name_from, two_names_from, store_from, add_from, cas_from, set_from, assert_from, named_by, simple_by, choice_by, choice_from, repeat_from, statement_by, turn_by, turn_from, block_from}
-use Rattle.guest_syntax.proofs.OptionCases.{bind_some, some_is}
-use Rattle.guest_syntax.proofs.TokenReaders.{token_takes, kind_again, kind_takes, symbol_takes, symbol_again, name_takes, name_again, times_takes, times_again}
 use Rattle.guest_syntax.proofs.ExpressionReaders.{operand_takes, operand_again, Ends, expr_takes, expr_again}
-use Rattle.guest_syntax.proofs.TakesTokens.{statement_shorter}
+use Rattle.guest_syntax.proofs.{OptionCases.{bind_some, some_is}, TakesTokens.statement_shorter}
+use Rattle.guest_syntax.proofs.TokenReaders.{token_takes, kind_again, kind_takes, symbol_takes, symbol_again, name_takes, name_again, times_takes, times_again}
+use Rattle.guest_syntax.specs.declared.token.Keyword.TheVariants as keywords
+use Rattle.guest_syntax.specs.declared.token.Symbol.TheVariants as symbols
 
 -- ---- what was read is spelled so
 

@@ -1,9 +1,7 @@
 -- A statement, one level at a time.
 use Rattle.std.proofs.Common.{◌≡◌, Some, Vec, Global, rules}
-use Rattle.guest_syntax.specs.declared.tree.Expr.{Expr}
-use Rattle.guest_syntax.specs.declared.tree.Placed.{Placed}
-use Rattle.guest_syntax.specs.declared.tree.Statement.{If, the_lemmas}
 use Rattle.guest_syntax.specs.Tree.{if_else, expr_view, stmt_view, placed_view, block_view}
+use Rattle.guest_syntax.specs.declared.tree.{Expr.Expr, Placed.Placed, Statement.{If, the_lemmas}}
 
 pub view-placed : (p : Placed)
     → placed_view p ≡ record { at = p.at; statement = stmt_view p.statement }

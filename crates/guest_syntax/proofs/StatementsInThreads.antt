@@ -1,14 +1,13 @@
 -- Each statement is in the text of its thread.
 use Rattle.std.proofs.Common.{◌≡◌, ℕ, suc, ◌<◌, List, [], ◌∷◌, ◌++◌, length, All, refl, ap, subst, arith}
 use Rattle.std.proofs.lemmas.List.Elements.{All-nil, All-cons}
-use Rattle.guest_syntax.specs.declared.limits.TheConstants.{DEPTH}
-use Rattle.guest_syntax.specs.declared.place.Pos.{Pos}
-use Rattle.guest_syntax.specs.Place.{start, Before}
-use Rattle.guest_syntax.specs.Tokens.{Token}
-use Rattle.guest_syntax.specs.Tree.{Stmt, if_then, if_else, repeat, Block, nothing, next, Thread, Tree}
 use Rattle.guest_syntax.specs.Forms.{BeginsAt, each}
 use Rattle.guest_syntax.specs.Grammar.{IsStatement, AreStatements, IsBlock, IsDeclaration, IsThread, Spells}
+use Rattle.guest_syntax.specs.Place.{start, Before}
 use Rattle.guest_syntax.specs.StatementPlaces.{Inside, EachPlace, IsInThread, AreInThreads}
+use Rattle.guest_syntax.specs.Tokens.{Token}
+use Rattle.guest_syntax.specs.Tree.{Stmt, if_then, if_else, repeat, Block, nothing, next, Thread, Tree}
+use Rattle.guest_syntax.specs.declared.{limits.TheConstants.DEPTH, place.Pos.Pos}
 use Rattle.guest_syntax.proofs.NoBadTokens.{Clean, Adds, adds_none, adds_then, token_c, expr_c, times_c, block_c, statement_c, statements_c, declaration_c, each_c}
 use Rattle.guest_syntax.proofs.TakesTokens.{statement_shorter}
 use Rattle.guest_syntax.proofs.TokenOrder.{EachToken, InOrder, in_order, each_further, order_further}

@@ -1,14 +1,13 @@
 -- What is spelled takes tokens.
 use Rattle.std.proofs.Common.{ℕ, ◌<◌, ◌≤◌, inl, inr, List, length, ap, arith, ℤ}
-use Rattle.guest_syntax.specs.Tokens.{TokenKind, symbol, Token}
-use Rattle.guest_syntax.specs.declared.token.Symbol.TheVariants as symbols
-use Rattle.guest_syntax.specs.declared.tree.Op.{Op}
-use Rattle.guest_syntax.specs.declared.tree.Op.TheVariants as ops
-use Rattle.guest_syntax.specs.declared.tree.Object.{Object}
-use Rattle.guest_syntax.specs.declared.tree.Object.TheVariants as objects
-use Rattle.guest_syntax.specs.Tree.{Name, Operand, local, literal, Expr, single, both, Stmt, load, store, add, cas, wait, set, assert, if_then, if_else, repeat, leave, Block, nothing, next, Thread}
 use Rattle.guest_syntax.specs.Forms.{Form, ◌then◌, IsToken, IsName, IsNumber, IsEnd, IsLiteral, in_braces}
 use Rattle.guest_syntax.specs.Grammar.{IsOperand, IsOp, IsExpr, IsTimes, IsStatement, AreStatements, IsBlock, IsObject, IsThread}
+use Rattle.guest_syntax.specs.Tokens.{TokenKind, symbol, Token}
+use Rattle.guest_syntax.specs.Tree.{Name, Operand, local, literal, Expr, single, both, Stmt, load, store, add, cas, wait, set, assert, if_then, if_else, repeat, leave, Block, nothing, next, Thread}
+use Rattle.guest_syntax.specs.declared.tree.{Object.Object, Op.Op}
+use Rattle.guest_syntax.specs.declared.token.Symbol.TheVariants as symbols
+use Rattle.guest_syntax.specs.declared.tree.Op.TheVariants as ops
+use Rattle.guest_syntax.specs.declared.tree.Object.TheVariants as objects
 
 abbrev pub Shrinks : Form → Type 0
 Shrinks F = (ts rest : List Token) → F ts rest → length rest ≤ length ts

@@ -1,13 +1,11 @@
 -- The tokens of a text are one after the other.
-use Rattle.std.proofs.Common.{◌≡◌, ℕ, ◌+◌, ◌<◌, Bool, true, false, ◌⊎◌, inl, inr, List, [], ◌∷◌, ◌++◌, length, if◌then◌else◌, refl, sym, ap, subst, arith}
 use Rattle.std.specs.Prelude.{◌==◌}
-use Rattle.guest_syntax.specs.declared.place.Pos.{Pos}
-use Rattle.guest_syntax.specs.declared.token.Keyword.{Keyword}
-use Rattle.guest_syntax.specs.declared.token.Keyword.TheVariants as keywords
+use Rattle.std.proofs.Common.{◌≡◌, ℕ, ◌+◌, ◌<◌, Bool, true, false, ◌⊎◌, inl, inr, List, [], ◌∷◌, ◌++◌, length, if◌then◌else◌, refl, sym, ap, subst, arith}
 use Rattle.guest_syntax.specs.Place.{past, after, Before}
 use Rattle.guest_syntax.specs.Tokens.{TokenKind, name, keyword, number, symbol, bad, Token, keyword_text, Spelling, Tokens}
-use Rattle.guest_syntax.proofs.ScannerProgress.{symbol_has_bytes}
-use Rattle.guest_syntax.proofs.NoBadTokens.{Adds}
+use Rattle.guest_syntax.specs.declared.{place.Pos.Pos, token.Keyword.Keyword}
+use Rattle.guest_syntax.proofs.{NoBadTokens.Adds, ScannerProgress.symbol_has_bytes}
+use Rattle.guest_syntax.specs.declared.token.Keyword.TheVariants as keywords
 
 -- ---- places
 

@@ -1,19 +1,17 @@
 -- One token: what was read is spelled there, and what is spelled there is read.
-use Rattle.std.proofs.Common.{◌≡◌, ℕ, ◌≤◌, true, false, List, [], ◌∷◌, Some, None, refl, ap, subst, ◌∙◌, arith, rules}
 use Rattle.std.specs.Prelude.{nat_le, nat_lt}
+use Rattle.std.proofs.Common.{◌≡◌, ℕ, ◌≤◌, true, false, List, [], ◌∷◌, Some, None, refl, ap, subst, ◌∙◌, arith, rules}
 use Rattle.std.proofs.lemmas.Bool.{leb-true, le-leb, ltb-true, lt-ltb}
 use denote.Enum.Bare.{same_true}
-use Rattle.guest_syntax.specs.declared.limits.TheConstants.{REPEATS}
+use Rattle.guest_syntax.specs.{Forms.{IsToken, IsName, IsNumber}, Grammar.IsTimes}
+use Rattle.guest_syntax.specs.Tokens.{TokenKind, name, keyword, number, symbol, bad, Token}
+use Rattle.guest_syntax.specs.{Tree.Name, declared.limits.TheConstants.REPEATS}
 use Rattle.guest_syntax.specs.declared.token.Symbol.{Symbol}
+use Rattle.guest_syntax.specs.reader.SingleTokens.{is_bad, token_at, is_symbol, symbol_from, name_in, name_from, number_in, number_from, times_from}
+use Rattle.guest_syntax.proofs.OptionCases.{bind_some, some_is, cond_ok, cond_no}
 use Rattle.guest_syntax.specs.declared.token.Symbol.TheVariants as symbols
 use Rattle.guest_syntax.specs.contracts.token.Symbol as symbol-type
 use Rattle.guest_syntax.specs.contracts.token.SymbolPartialEq.TheImpl as symbol-eq
-use Rattle.guest_syntax.specs.Tokens.{TokenKind, name, keyword, number, symbol, bad, Token}
-use Rattle.guest_syntax.specs.Tree.{Name}
-use Rattle.guest_syntax.specs.Forms.{IsToken, IsName, IsNumber}
-use Rattle.guest_syntax.specs.Grammar.{IsTimes}
-use Rattle.guest_syntax.specs.reader.SingleTokens.{is_bad, token_at, is_symbol, symbol_from, name_in, name_from, number_in, number_from, times_from}
-use Rattle.guest_syntax.proofs.OptionCases.{bind_some, some_is, cond_ok, cond_no}
 
 pub token_takes : (ts : List Token) (x : Token × List Token) → token_at ts ≡ Some x
     → (is_bad x.0.kind ≡ false) × (ts ≡ x.0 ∷ x.1)

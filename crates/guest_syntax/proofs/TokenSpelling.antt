@@ -1,25 +1,22 @@
 -- One token among bytes: what was read is spelled so, and what is spelled so is read.
-use Rattle.std.proofs.Common.{◌≡◌, ◌≢◌, ℕ, ◌+◌, ◌-◌, ◌*◌, ◌^◌, min, ◌<◌, Bool, true, false, cond, List, [], ◌∷◌, ◌++◌, length, take, drop, Option, Some, None, refl, sym, ap, subst, ◌∙◌, arith, true≢false, lit<}
 use Rattle.std.specs.Prelude.{find, fold, nat_eq, ◌==◌}
+use Rattle.std.proofs.Common.{◌≡◌, ◌≢◌, ℕ, ◌+◌, ◌-◌, ◌*◌, ◌^◌, min, ◌<◌, Bool, true, false, cond, List, [], ◌∷◌, ◌++◌, length, take, drop, Option, Some, None, refl, sym, ap, subst, ◌∙◌, arith, true≢false, lit<}
 use Rattle.std.specs.Cmp.Derive.{both_true}
-use Rattle.std.specs.Option.{option_map_or}
-use Rattle.std.specs.Str.{bytes_eq}
 use Rattle.std.specs.List.{prefix_len, list_all, starts_with, AllByRecursion}
-use Rattle.std.proofs.lemmas.Bool.Decides.{Decides-eqb}
+use Rattle.std.specs.{Option.option_map_or, Str.bytes_eq}
+use Rattle.std.proofs.lemmas.{Bool.Decides.Decides-eqb, List.{take_at, take-append-drop}}
 use Rattle.std.proofs.lemmas.List.Folds.{list_all-append}
-use Rattle.std.proofs.lemmas.List.{take_at, take-append-drop}
 use Rattle.std.proofs.lemmas.Slice.Eq.{bytes_eq-Decides, slice_eq-Decides}
-use Rattle.guest_syntax.specs.declared.token.Keyword.{Keyword}
-use Rattle.guest_syntax.specs.declared.token.Symbol.{Symbol}
+use Rattle.guest_syntax.specs.Tokens.{TokenKind, name, keyword, number, symbol, bad, Spelling, IsLongest, IsIdentifier, keyword_text, symbol_text, value, is_letter, is_digit, is_name_byte}
+use Rattle.guest_syntax.specs.declared.token.{Keyword.Keyword, Symbol.Symbol}
+use Rattle.guest_syntax.specs.declared.token.TheConstants.{KEYWORDS, SYMBOLS}
+use Rattle.guest_syntax.specs.reader.Scanner.{name_or_keyword, capped, symbol_at, kind_by, kind_at}
+use Rattle.guest_syntax.proofs.BlankRuns.{Ascii}
+use Rattle.guest_syntax.proofs.ByteClasses.{and_parts, or_left, or_right, letter_no_digit, name_byte_ascii, digit_ascii}
+use Rattle.guest_syntax.proofs.LongestPrefix.{Front, front, prefix_is}
+use Rattle.guest_syntax.proofs.OptionCases.{map_some, some_is}
 use Rattle.guest_syntax.specs.declared.token.Keyword.TheVariants as keywords
 use Rattle.guest_syntax.specs.declared.token.Symbol.TheVariants as symbols
-use Rattle.guest_syntax.specs.declared.token.TheConstants.{KEYWORDS, SYMBOLS}
-use Rattle.guest_syntax.specs.Tokens.{TokenKind, name, keyword, number, symbol, bad, Spelling, IsLongest, IsIdentifier, keyword_text, symbol_text, value, is_letter, is_digit, is_name_byte}
-use Rattle.guest_syntax.specs.reader.Scanner.{name_or_keyword, capped, symbol_at, kind_by, kind_at}
-use Rattle.guest_syntax.proofs.OptionCases.{map_some, some_is}
-use Rattle.guest_syntax.proofs.ByteClasses.{and_parts, or_left, or_right, letter_no_digit, name_byte_ascii, digit_ascii}
-use Rattle.guest_syntax.proofs.BlankRuns.{Ascii}
-use Rattle.guest_syntax.proofs.LongestPrefix.{Front, front, prefix_is}
 
 -- ---- lists of bytes that pass
 

@@ -1,21 +1,19 @@
 -- The tokens that are read are those that the text spells.
-use Rattle.std.proofs.Common.{◌≡◌, ℕ, zero, suc, ◌<◌, Bool, true, false, List, [], ◌∷◌, ◌++◌, length, take, drop, Option, Some, None, refl, sym, ap, subst, ◌∙◌, arith}
 use Rattle.std.specs.Prelude.{IsSome}
+use Rattle.std.proofs.Common.{◌≡◌, ℕ, zero, suc, ◌<◌, Bool, true, false, List, [], ◌∷◌, ◌++◌, length, take, drop, Option, Some, None, refl, sym, ap, subst, ◌∙◌, arith}
 use Rattle.std.specs.List.{list_all}
 use Rattle.std.proofs.lemmas.List.{append-nil, take_at, drop_at, take-append-drop}
-use Rattle.guest_syntax.specs.declared.place.Pos.{Pos}
-use Rattle.guest_syntax.specs.declared.token.Symbol.{Symbol}
-use Rattle.guest_syntax.specs.declared.token.Symbol.TheVariants as symbols
 use Rattle.guest_syntax.specs.Place.{after}
-use Rattle.guest_syntax.specs.reader.BlankBytes.{Stops, gap_step}
 use Rattle.guest_syntax.specs.Tokens.{TokenKind, name, keyword, number, symbol, bad, Token, Tokens, Begins, Spelling, IsIdentifier, keyword_text, symbol_text, blank, is_digit}
+use Rattle.guest_syntax.specs.declared.{place.Pos.Pos, token.Symbol.Symbol}
+use Rattle.guest_syntax.specs.reader.BlankBytes.{Stops, gap_step}
 use Rattle.guest_syntax.specs.reader.Scanner.{◌>>=◌, skipped, kind_at, first_from, first, scan_with, scan, tokens_from}
-use Rattle.guest_syntax.proofs.OptionCases.{bind_some, some_is}
-use Rattle.guest_syntax.proofs.ScannerProgress.{first_len}
-use Rattle.guest_syntax.proofs.NoBadTokens.{Clean}
-use Rattle.guest_syntax.proofs.ByteClasses.{and_parts, letter_stops, digit_stops}
 use Rattle.guest_syntax.proofs.BlankRuns.{Ascii, ascii_append, ascii_parts, Gap, skip_takes, skip_again, stop_again}
+use Rattle.guest_syntax.proofs.ByteClasses.{and_parts, letter_stops, digit_stops}
+use Rattle.guest_syntax.proofs.{NoBadTokens.Clean, OptionCases.{bind_some, some_is}}
+use Rattle.guest_syntax.proofs.ScannerProgress.{first_len}
 use Rattle.guest_syntax.proofs.TokenSpelling.{kind_reads, kind_again, keyword_is_identifier}
+use Rattle.guest_syntax.specs.declared.token.Symbol.TheVariants as symbols
 
 -- ---- what is read is spelled
 

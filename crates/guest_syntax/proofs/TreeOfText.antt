@@ -1,21 +1,15 @@
 -- The tree of a text.
-use Rattle.std.proofs.Common.{◌≡◌, ℕ, ◌≤◌, List, length, Some, Result, Ok, Err, refl, sym, ap, subst, ◌∙◌}
 use Rattle.std.specs.Prelude.{IfOk, IfErr, ◌≢◌}
-use Rattle.guest_syntax.specs.declared.limits.TheConstants.{TEXT_BYTES}
-use Rattle.guest_syntax.specs.declared.place.Pos.{Pos}
+use Rattle.std.proofs.Common.{◌≡◌, ℕ, ◌≤◌, List, length, Some, Result, Ok, Err, refl, sym, ap, subst, ◌∙◌}
+use Rattle.guest_syntax.specs.{Answers.Answers, Grammar.Spells, Tree.{Tree, tree_view}}
 use Rattle.guest_syntax.specs.declared.error.SyntaxError.{SyntaxError}
+use Rattle.guest_syntax.specs.declared.{limits.TheConstants.TEXT_BYTES, place.Pos.Pos}
+use Rattle.guest_syntax.specs.reader.{Gives.Gives, Scanner.tokens_from, Trees.tree_from}
+use Rattle.guest_syntax.proofs.{NoBadTokens.tree_clean, OptionCases.some_is}
+use Rattle.guest_syntax.proofs.TokensOfText.{tokens_takes, tokens_again}
+use Rattle.guest_syntax.proofs.TreeReaders.{tree_takes, tree_again}
 use Rattle.guest_syntax.specs.declared.error.SyntaxError.TheVariants as errors
 use Rattle.guest_syntax.specs.declared.tree.Tree as code
-use Rattle.guest_syntax.specs.reader.Gives.{Gives}
-use Rattle.guest_syntax.specs.Answers.{Answers}
-use Rattle.guest_syntax.specs.Tree.{Tree, tree_view}
-use Rattle.guest_syntax.specs.Grammar.{Spells}
-use Rattle.guest_syntax.specs.reader.Scanner.{tokens_from}
-use Rattle.guest_syntax.specs.reader.Trees.{tree_from}
-use Rattle.guest_syntax.proofs.OptionCases.{some_is}
-use Rattle.guest_syntax.proofs.TreeReaders.{tree_takes, tree_again}
-use Rattle.guest_syntax.proofs.NoBadTokens.{tree_clean}
-use Rattle.guest_syntax.proofs.TokensOfText.{tokens_takes, tokens_again}
 
 abbrev pub start : Pos
 start = record { line = 1; col = 1 }

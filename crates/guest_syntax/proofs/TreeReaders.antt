@@ -1,27 +1,24 @@
 -- Whole texts: what was read is spelled so, and what is spelled so is read.
-use Rattle.std.proofs.Common.{◌≡◌, ℕ, zero, suc, ◌<◌, false, inl, inr, List, [], ◌∷◌, length, Option, Some, None, refl, sym, ap, subst, ◌∙◌, arith}
 use Rattle.std.specs.Prelude.{pos}
-use Rattle.guest_syntax.specs.declared.limits.TheConstants.{DEPTH, COUNT}
-use Rattle.guest_syntax.specs.declared.token.Keyword.{Keyword}
-use Rattle.guest_syntax.specs.declared.token.Keyword.TheVariants as keywords
-use Rattle.guest_syntax.specs.declared.token.Symbol.TheVariants as symbols
-use Rattle.guest_syntax.specs.declared.tree.Object.{Object}
-use Rattle.guest_syntax.specs.declared.tree.Object.TheVariants as objects
-use Rattle.guest_syntax.specs.Tokens.{TokenKind, keyword, symbol, Token}
-use Rattle.guest_syntax.specs.Tree.{Name, Declaration, Thread, Tree}
+use Rattle.std.proofs.Common.{◌≡◌, ℕ, zero, suc, ◌<◌, false, inl, inr, List, [], ◌∷◌, length, Option, Some, None, refl, sym, ap, subst, ◌∙◌, arith}
 use Rattle.guest_syntax.specs.Forms.{IsLiteral, IsNumber, IsSymbol, Form, ◌then◌, IsToken, IsName, IsEnd, each}
 use Rattle.guest_syntax.specs.Grammar.{IsObject, IsDeclaration, IsThread, IsTree}
-use Rattle.guest_syntax.specs.reader.Reads.{Read}
+use Rattle.guest_syntax.specs.Tokens.{TokenKind, keyword, symbol, Token}
+use Rattle.guest_syntax.specs.Tree.{Name, Declaration, Thread, Tree}
+use Rattle.guest_syntax.specs.declared.{limits.TheConstants.{DEPTH, COUNT}, token.Keyword.Keyword}
+use Rattle.guest_syntax.specs.{declared.tree.Object.Object, reader.Expressions.literal_from}
+use Rattle.guest_syntax.specs.reader.{Items.{Turn, many_by, many, all_from}, Reads.Read}
 use Rattle.guest_syntax.specs.reader.SingleTokens.{is_bad, next_at, token_at, symbol_from, name_from, number_from}
-use Rattle.guest_syntax.specs.reader.Expressions.{literal_from}
-use Rattle.guest_syntax.specs.reader.Items.{Turn, many_by, many, all_from}
 use Rattle.guest_syntax.specs.reader.Statements.{one_name_from, block_from}
 use Rattle.guest_syntax.specs.reader.Trees.{variable_by, variable_from, plain_from, semaphore_from, declaration_by, declaration_next, declaration_turn, thread_from, thread_by, thread_next, thread_turn, tree_from}
-use Rattle.guest_syntax.proofs.OptionCases.{bind_some, some_is, cond_no}
-use Rattle.guest_syntax.proofs.TokenReaders.{kind_again, kind_takes, symbol_takes, symbol_again, name_takes, name_again, number_takes, number_again}
 use Rattle.guest_syntax.proofs.ExpressionReaders.{literal_takes, literal_again}
-use Rattle.guest_syntax.proofs.TakesTokens.{object_shorter, thread_shorter}
+use Rattle.guest_syntax.proofs.OptionCases.{bind_some, some_is, cond_no}
 use Rattle.guest_syntax.proofs.StatementReaders.{last_takes, one_name_takes, one_name_again, block_takes, block_again, next_again}
+use Rattle.guest_syntax.proofs.TakesTokens.{object_shorter, thread_shorter}
+use Rattle.guest_syntax.proofs.TokenReaders.{kind_again, kind_takes, symbol_takes, symbol_again, name_takes, name_again, number_takes, number_again}
+use Rattle.guest_syntax.specs.declared.token.Keyword.TheVariants as keywords
+use Rattle.guest_syntax.specs.declared.token.Symbol.TheVariants as symbols
+use Rattle.guest_syntax.specs.declared.tree.Object.TheVariants as objects
 
 -- ---- items in turn
 

@@ -1,14 +1,11 @@
 -- What `parse` may answer.
 use Rattle.std.specs.Prelude.{◌≡◌, ◌<◌, ℕ, List, [], ◌∷◌, ◌++◌, length, Result, Ok, Err}
-use Rattle.guest_syntax.specs.declared.limits.TheConstants.{TEXT_BYTES, REPEATS}
-use Rattle.guest_syntax.specs.declared.place.Pos.{Pos}
+use Rattle.guest_syntax.specs.{Place.Follows, Tokens.{TokenKind, number, symbol, Spelling}}
+use Rattle.guest_syntax.specs.{Tree.{Tree, tree_view}, declared.error.SyntaxError.SyntaxError}
+use Rattle.guest_syntax.specs.declared.{limits.TheConstants.{TEXT_BYTES, REPEATS}, place.Pos.Pos}
 use Rattle.guest_syntax.specs.declared.token.Symbol.TheVariants.{Open}
-use Rattle.guest_syntax.specs.declared.error.SyntaxError.{SyntaxError}
 use Rattle.guest_syntax.specs.declared.error.SyntaxError.TheVariants as errors
 use Rattle.guest_syntax.specs.declared.tree.Tree as code
-use Rattle.guest_syntax.specs.Place.{Follows}
-use Rattle.guest_syntax.specs.Tokens.{TokenKind, number, symbol, Spelling}
-use Rattle.guest_syntax.specs.Tree.{Tree, tree_view}
 
 -- the answer is this tree, or memory ran out
 abbrev pub Answers : Result code.Tree SyntaxError → Tree → Type 0

@@ -1,8 +1,7 @@
 -- What the user is told of a place and of a refused text.
 use Rattle.std.specs.Prelude.{ℕ, List, ◌++◌, codes}
 use Rattle.std.specs.Fmt.{decimal}
-use Rattle.guest_syntax.specs.declared.place.Pos.{Pos}
-use Rattle.guest_syntax.specs.declared.error.SyntaxError.{SyntaxError}
+use Rattle.guest_syntax.specs.declared.{error.SyntaxError.SyntaxError, place.Pos.Pos}
 use Rattle.guest_syntax.specs.declared.error.SyntaxError.TheVariants as errors
 
 -- line and column with a colon between them

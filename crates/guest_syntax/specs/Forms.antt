@@ -1,12 +1,9 @@
 -- Forms: which tokens may come before which others.
 use Rattle.std.specs.Prelude.{◌≡◌, ℕ, suc, ◌≤◌, ℤ, pos, ◌-ℤ◌, ◌⊎◌, List, [], ◌∷◌}
+use Rattle.guest_syntax.specs.{Tokens.{TokenKind, name, keyword, number, symbol, Token}, Tree.Name}
 use Rattle.guest_syntax.specs.declared.limits.TheConstants.{NUMBER}
-use Rattle.guest_syntax.specs.declared.place.Pos.{Pos}
-use Rattle.guest_syntax.specs.declared.token.Keyword.{Keyword}
-use Rattle.guest_syntax.specs.declared.token.Symbol.{Symbol}
+use Rattle.guest_syntax.specs.declared.{place.Pos.Pos, token.Keyword.Keyword, token.Symbol.Symbol}
 use Rattle.guest_syntax.specs.declared.token.Symbol.TheVariants as symbols
-use Rattle.guest_syntax.specs.Tokens.{TokenKind, name, keyword, number, symbol, Token}
-use Rattle.guest_syntax.specs.Tree.{Name}
 
 -- which tokens may come before which
 abbrev pub Form : Type 1

@@ -1,16 +1,15 @@
 -- The grammar: which tokens spell a tree, and which bytes.
 use Rattle.std.specs.Prelude.{◌≡◌, ℕ, suc, ◌<◌, ◌≤◌, ℤ, pos, ◌⊎◌, List, [], length}
 use Rattle.std.specs.List.{AllByRecursion}
+use Rattle.guest_syntax.specs.Forms.{Form, ◌then◌, IsKeyword, IsSymbol, IsName, IsNumber, IsEnd, IsLiteral, placed_at, in_braces, each}
+use Rattle.guest_syntax.specs.Tokens.{Token, Tokens}
+use Rattle.guest_syntax.specs.Tree.{Name, Operand, local, literal, Expr, single, both, Stmt, load, store, add, cas, lock, unlock, wait, signal, broadcast, acquire, release, set, assert, if_then, if_else, repeat, leave, Block, nothing, next, Declaration, Thread, Tree}
 use Rattle.guest_syntax.specs.declared.limits.TheConstants.{TEXT_BYTES, DEPTH, COUNT, REPEATS}
+use Rattle.guest_syntax.specs.declared.tree.{Object.Object, Op.Op}
 use Rattle.guest_syntax.specs.declared.token.Keyword.TheVariants as keywords
 use Rattle.guest_syntax.specs.declared.token.Symbol.TheVariants as symbols
-use Rattle.guest_syntax.specs.declared.tree.Op.{Op}
 use Rattle.guest_syntax.specs.declared.tree.Op.TheVariants as ops
-use Rattle.guest_syntax.specs.declared.tree.Object.{Object}
 use Rattle.guest_syntax.specs.declared.tree.Object.TheVariants as objects
-use Rattle.guest_syntax.specs.Tokens.{Token, Tokens}
-use Rattle.guest_syntax.specs.Forms.{Form, ◌then◌, IsKeyword, IsSymbol, IsName, IsNumber, IsEnd, IsLiteral, placed_at, in_braces, each}
-use Rattle.guest_syntax.specs.Tree.{Name, Operand, local, literal, Expr, single, both, Stmt, load, store, add, cas, lock, unlock, wait, signal, broadcast, acquire, release, set, assert, if_then, if_else, repeat, leave, Block, nothing, next, Declaration, Thread, Tree}
 
 abbrev pub IsOperand : Operand → Form
 IsOperand (local n) = IsName n

@@ -1,13 +1,9 @@
 -- The pieces of a text that may spell no tree, and its blocks.
 use Rattle.std.specs.Prelude.{◌≡◌, ℕ, ◌+◌, ◌-◌, ◌⊎◌, List, [], ◌∷◌, ◌++◌, length, Bool, false, ◌==◌, if◌then◌else◌, Option, Some, None, IsSome, MatchOption, codes}
-use Rattle.std.specs.Option.{option_and_then}
-use Rattle.std.specs.Str.{bytes_eq}
-use Rattle.guest_syntax.specs.declared.place.Pos.{Pos}
-use Rattle.guest_syntax.specs.declared.pieces.Piece.{Piece}
-use Rattle.guest_syntax.specs.declared.pieces.Pieces.{Pieces}
-use Rattle.guest_syntax.specs.Place.{after}
+use Rattle.std.specs.{Option.option_and_then, Str.bytes_eq}
+use Rattle.guest_syntax.specs.{Answers.BeginsNone, Place.after}
 use Rattle.guest_syntax.specs.Tokens.{TokenKind, Spelling, IsLongest, blank}
-use Rattle.guest_syntax.specs.Answers.{BeginsNone}
+use Rattle.guest_syntax.specs.declared.{pieces.Piece.Piece, pieces.Pieces.Pieces, place.Pos.Pos}
 
 -- ---- pieces
 

@@ -1,9 +1,7 @@
 -- Where the statements of a thread are in their text.
 use Rattle.std.specs.Prelude.{List, [], ◌∷◌, All}
-use Rattle.guest_syntax.specs.declared.place.Pos.{Pos}
-use Rattle.guest_syntax.specs.Place.{Before}
+use Rattle.guest_syntax.specs.{Place.Before, Tree.{Stmt, Block, Thread}, declared.place.Pos.Pos}
 use Rattle.guest_syntax.specs.Tree as tree
-use Rattle.guest_syntax.specs.Tree.{Stmt, Block, Thread}
 
 -- P holds of the place of each statement inside a statement, and of a block
 abbrev mutual

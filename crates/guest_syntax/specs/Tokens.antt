@@ -1,12 +1,10 @@
 -- What tokens are, and how a text spells them.
 use Rattle.std.specs.Prelude.{◌≡◌, ◌≢◌, ℕ, ◌+◌, ◌-◌, ◌*◌, ◌^◌, ◌<◌, min, List, [], ◌∷◌, ◌++◌, length, Bool, true, false, not, ◌&&◌, ◌||◌, ◌==◌, nat_le, IsTrue, IsSome, Option, Some, None, if◌then◌else◌, codes, fold}
 use Rattle.std.specs.List.{list_all}
-use Rattle.guest_syntax.specs.declared.place.Pos.{Pos}
-use Rattle.guest_syntax.specs.declared.token.Keyword.{Keyword}
+use Rattle.guest_syntax.specs.{Place.after, declared.place.Pos.Pos, declared.token.Keyword.Keyword}
 use Rattle.guest_syntax.specs.declared.token.Symbol.{Symbol}
 use Rattle.guest_syntax.specs.declared.token.Keyword.TheVariants as keywords
 use Rattle.guest_syntax.specs.declared.token.Symbol.TheVariants as symbols
-use Rattle.guest_syntax.specs.Place.{after}
 
 -- `bad` is where no token begins, and nothing spells it
 pub data TokenKind : Type 0 where

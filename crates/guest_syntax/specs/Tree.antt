@@ -1,9 +1,10 @@
 -- Trees, without where they lie in memory.
 use Rattle.std.specs.Prelude.{ℕ, ℤ, List, [], ◌∷◌, map, Some, None}
-use Rattle.guest_syntax.specs.declared.place.Pos.{Pos}
+use Rattle.guest_syntax.specs.declared.{place.Pos.Pos, tree.Object.Object, tree.Op.Op}
+use Rattle.guest_syntax.specs.declared.tree.Statement.{Statement, fold-Statement}
+use Rattle.guest_syntax.specs.declared.tree.Statement.TheFolds.{fold-Placed}
+use Rattle.guest_syntax.specs.declared.tree.Statement.TheOpen.{Statement-F, Placed-F}
 use Rattle.guest_syntax.specs.declared.tree.Name as code-name
-use Rattle.guest_syntax.specs.declared.tree.Op.{Op}
-use Rattle.guest_syntax.specs.declared.tree.Object.{Object}
 use Rattle.guest_syntax.specs.declared.tree.Operand as code-operand
 use Rattle.guest_syntax.specs.declared.tree.Operand.TheVariants as operands
 use Rattle.guest_syntax.specs.declared.tree.Expr as code-expr
@@ -12,9 +13,6 @@ use Rattle.guest_syntax.specs.declared.tree.Declaration as code-declaration
 use Rattle.guest_syntax.specs.declared.tree.Thread as code-thread
 use Rattle.guest_syntax.specs.declared.tree.Tree as code-tree
 use Rattle.guest_syntax.specs.declared.tree.Placed as code-placed
-use Rattle.guest_syntax.specs.declared.tree.Statement.{Statement, fold-Statement}
-use Rattle.guest_syntax.specs.declared.tree.Statement.TheFolds.{fold-Placed}
-use Rattle.guest_syntax.specs.declared.tree.Statement.TheOpen.{Statement-F, Placed-F}
 
 pub record Name : Type 0 where
   pub text : List ℕ

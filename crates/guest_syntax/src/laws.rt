@@ -1,9 +1,8 @@
 //! Laws of the grammar, each the contract of a function that does nothing.
 
 ghost use Rattle.std.specs.Prelude.{◌≡◌, List, ℕ};
+ghost use Rattle.guest_syntax.specs.{Grammar.Spells, StatementPlaces.AreInThreads};
 ghost use Rattle.guest_syntax.specs.Tree as model;
-ghost use Rattle.guest_syntax.specs.Grammar.{Spells};
-ghost use Rattle.guest_syntax.specs.StatementPlaces.{AreInThreads};
 
 use crate::limits::{COUNT, DEPTH, NUMBER, REPEATS, TEXT_BYTES};
 

@@ -1,16 +1,13 @@
 //! From bytes to tokens, one at a time as they are asked for.
 
 ghost use Rattle.std.specs.Prelude.{◌≡◌, ◌+◌, ◌<◌, ◌≤◌, ◌^◌, length, false, IfOk, IfErr, IfSome, None, take, drop, [], ◌∷◌, option_map, find, nat_eq};
-ghost use Rattle.std.specs.List.{starts_with, prefix_len};
-ghost use Rattle.std.specs.Str.{bytes_eq};
-ghost use Rattle.guest_syntax.specs.reader.Scanner.{skipped, name_or_keyword, capped, symbol_at, kind_at, first};
-ghost use Rattle.guest_syntax.specs.reader.Gives.{Gives};
-ghost use Rattle.guest_syntax.specs.reader.Reads.{Scans};
-ghost use Rattle.guest_syntax.specs.Place.{after};
-ghost use Rattle.guest_syntax.specs.Place as place;
-ghost use Rattle.guest_syntax.specs.Answers.{IsTokenIn, RefusalIn};
-ghost use Rattle.guest_syntax.specs.reader.TokenViews.{kind_view};
+ghost use Rattle.std.specs.{List.{starts_with, prefix_len}, Str.bytes_eq};
+ghost use Rattle.guest_syntax.specs.{Answers.{IsTokenIn, RefusalIn}, Place.after};
 ghost use Rattle.guest_syntax.specs.Tokens.{keyword_text, symbol_text, is_space, is_letter, is_digit, is_name_byte, blank};
+ghost use Rattle.guest_syntax.specs.reader.{Gives.Gives, Reads.Scans};
+ghost use Rattle.guest_syntax.specs.reader.Scanner.{skipped, name_or_keyword, capped, symbol_at, kind_at, first};
+ghost use Rattle.guest_syntax.specs.reader.TokenViews.{kind_view};
+ghost use Rattle.guest_syntax.specs.Place as place;
 
 use crate::cursor::Cursor;
 use crate::error::SyntaxError;

@@ -1,12 +1,10 @@
 //! Reading declarations and threads, up to the end of a text.
 
 ghost use Rattle.std.specs.Prelude.{map, IfErr, option_map};
-ghost use Rattle.guest_syntax.specs.reader.Gives.{Gives};
+ghost use Rattle.guest_syntax.specs.{Answers.RefusalIn, Place.start};
 ghost use Rattle.guest_syntax.specs.Tree.{declaration_view, thread_view, tree_view};
-ghost use Rattle.guest_syntax.specs.Place.{start};
-ghost use Rattle.guest_syntax.specs.Answers.{RefusalIn};
+ghost use Rattle.guest_syntax.specs.reader.{Gives.Gives, Items.all_from};
 ghost use Rattle.guest_syntax.specs.reader.Reads.{rest_of, Parses, Reads, StaysIn, ItemTakesToken};
-ghost use Rattle.guest_syntax.specs.reader.Items.{all_from};
 ghost use Rattle.guest_syntax.specs.reader.Trees.{variable_from, plain_from, semaphore_from, declaration_turn, thread_from, thread_turn, tree_from};
 
 use crate::error::SyntaxError;

@@ -1,13 +1,11 @@
 //! Reading a text into its tree.
 
 ghost use Rattle.std.specs.Prelude.{◌≡◌, ◌≢◌, ◌<◌, length, IfOk, IfErr, Err};
+ghost use Rattle.guest_syntax.specs.{Answers.{Answers, RefusalIn}, Grammar.Spells, Place.start};
+ghost use Rattle.guest_syntax.specs.Tree.{tree_view};
 ghost use Rattle.guest_syntax.specs.declared.error.SyntaxError.TheVariants.{OutOfMemory, TooLong};
 ghost use Rattle.guest_syntax.specs.declared.limits.TheConstants.{TEXT_BYTES};
-ghost use Rattle.guest_syntax.specs.Answers.{Answers, RefusalIn};
-ghost use Rattle.guest_syntax.specs.Place.{start};
-ghost use Rattle.guest_syntax.specs.Tree.{tree_view};
 ghost use Rattle.guest_syntax.specs.Tree as model;
-ghost use Rattle.guest_syntax.specs.Grammar.{Spells};
 
 use crate::cursor::Cursor;
 use crate::error::SyntaxError;

@@ -1,7 +1,6 @@
 //! Statements that hold no block.
 
-ghost use Rattle.guest_syntax.specs.Tree.{name_view, stmt_view};
-ghost use Rattle.guest_syntax.specs.reader.Reads.{IsPlaceOf, Parses};
+ghost use Rattle.guest_syntax.specs.{Tree.{name_view, stmt_view}, reader.Reads.{IsPlaceOf, Parses}};
 ghost use Rattle.guest_syntax.specs.reader.Statements.{one_name_from, two_names_from, store_from, add_from, cas_from, set_from, assert_from, named_by, simple_by};
 
 use crate::error::SyntaxError;

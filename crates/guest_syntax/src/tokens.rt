@@ -1,14 +1,12 @@
 //! The reader of a text, and how it reads single tokens of the kinds that the grammar wants.
 
 ghost use Rattle.std.specs.Prelude.{◌≡◌, ◌≤◌, IfOk, IfSome, None, option_map};
+ghost use Rattle.guest_syntax.specs.{Tokens.symbol, Tree.name_view};
+ghost use Rattle.guest_syntax.specs.declared.{limits.TheConstants.REPEATS, tokens.Reader.Reader};
 ghost use Rattle.guest_syntax.specs.reader.Gives.{Gives};
-ghost use Rattle.guest_syntax.specs.reader.TokenViews.{kind_view, token_view};
-ghost use Rattle.guest_syntax.specs.Tree.{name_view};
-ghost use Rattle.guest_syntax.specs.declared.tokens.Reader.{Reader};
-ghost use Rattle.guest_syntax.specs.declared.limits.TheConstants.{REPEATS};
-ghost use Rattle.guest_syntax.specs.Tokens.{symbol};
 ghost use Rattle.guest_syntax.specs.reader.Reads.{IsPlaceOf, IsTokenOf, IsEndOf, StaysAt, rest_of, Parses, Reads, StaysIn, TakesToken, ItemTakesToken};
 ghost use Rattle.guest_syntax.specs.reader.SingleTokens.{next_at, token_at, symbol_from, name_from, number_in, number_from, times_from};
+ghost use Rattle.guest_syntax.specs.reader.TokenViews.{kind_view, token_view};
 
 use crate::cursor::Cursor;
 use crate::error::SyntaxError;

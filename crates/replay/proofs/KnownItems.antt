@@ -1,7 +1,6 @@
 -- A `for` over an iterator whose items are known.
 use Rattle.std.proofs.Common.{◌≡◌, ◌<◌, List, Option, Some, None, length, map, take, get_or}
-use Rattle.std.specs.Iterator.{Yields}
-use Rattle.std.proofs.lemmas.Iterator.{YieldsList}
+use Rattle.std.{specs.Iterator.Yields, proofs.lemmas.Iterator.YieldsList}
 use Rattle.std.proofs.lemmas.Iterator.Consumers.{YieldsList-so_far, YieldsList-turn, YieldsList-end}
 
 module _ {S A B : Type 0} {steps : S → Option A → S → Type 0} {v : A → B} {s : S} {all : List B}

@@ -1,19 +1,16 @@
 -- The threads that have stopped, and the lines of steps one after another.
 use Rattle.std.proofs.Common.{◌≡◌, ℕ, zero, suc, ◌+◌, ◌<◌, ◌≤◌, Bool, true, false, cond, List, [], ◌∷◌, ◌++◌, length, take, get_or, Option, Some, None, refl, ap, ◌∙◌, sym, subst, arith, append_assoc, append-nil, add-one}
-use Rattle.std.specs.List.{filter}
-use Rattle.std.proofs.lemmas.List.{take_more}
+use Rattle.std.{specs.List.filter, proofs.lemmas.List.take_more}
 use Rattle.std.proofs.lemmas.List.Elements.{filter-append}
 use Rattle.guest_code.specs.Program.{Program}
-use Rattle.semantics.specs.Machine.{Snapshot, next_of, is_enabled, step, start}
-use Rattle.semantics.specs.Work.{up_from}
-use Rattle.semantics_schedules.specs.Schedules.{state_after, last_of, last_after}
+use Rattle.semantics.specs.{Machine.{Snapshot, next_of, is_enabled, step, start}, Work.up_from}
 use Rattle.semantics_schedules.specs.Execution.{ExecutionView, Reaches, stepped}
+use Rattle.semantics_schedules.specs.Schedules.{state_after, last_of, last_after}
 use Rattle.semantics_schedules.proofs.Executions.{reaches_step, reaches_few}
-use Rattle.replay.specs.declared.run.Line.{Line}
+use Rattle.replay.specs.Run.{lines_from, line_at, IsFirstBad, ReplayErrorMeans}
 use Rattle.replay.specs.declared.error.ReplayError.{ReplayError}
 use Rattle.replay.specs.declared.error.ReplayError.TheVariants.{NoSuchThread, NotEnabled, OutOfMemory}
-use Rattle.replay.specs.Run.{lines_from, line_at, IsFirstBad, ReplayErrorMeans}
-use Rattle.replay.specs.inner.Step.{RefusalMeans}
+use Rattle.replay.specs.{declared.run.Line.Line, inner.Step.RefusalMeans}
 
 -- rising numbers, with one more
 up_from-push : (first n : ℕ) → up_from first (suc n) ≡ up_from first n ++ (first + n) ∷ []

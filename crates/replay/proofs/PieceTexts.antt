@@ -1,15 +1,12 @@
 -- A text is one piece.
 use Rattle.std.proofs.Common.{◌≡◌, ◌⊎◌, ℕ, ◌+◌, ◌-◌, ◌<◌, ◌≤◌, ◌^◌, true, false, ◌==◌, List, [], ◌∷◌, ◌++◌, length, refl, ap, ◌∙◌, sym, subst, arith, inl, inr, get_or, take, drop, min, Some, None, Bool, cond, nat_lt}
-use Rattle.std.proofs.lemmas.Bool.{false≢true, cases_lt}
-use Rattle.std.proofs.lemmas.Bool.Decides.{nat_tests}
+use Rattle.std.specs.List.{All, position, position_or_len}
+use Rattle.std.proofs.lemmas.Bool.{false≢true, cases_lt, Decides.nat_tests}
 use Rattle.std.proofs.lemmas.List.{drop_more, take-append-drop, length-take, get_or-take, take_rest}
 use Rattle.std.proofs.lemmas.List.Elements.{All-head, All-tail, All-append, All-cons, All-from_get_or}
-use Rattle.std.proofs.lemmas.List.Quantifiers.{position-Some}
-use Rattle.std.proofs.lemmas.List.Sums.{fails_before_first}
-use Rattle.std.specs.List.{All, position, position_or_len}
-use Rattle.replay.specs.declared.piece.Piece.{Piece}
+use Rattle.std.proofs.lemmas.List.{Quantifiers.position-Some, Sums.fails_before_first}
 use Rattle.replay.specs.Spelling.{SpellsNumber, SpellsCount, IsStep, IsRun, SpellsPiece}
-use Rattle.replay.specs.inner.Piece.{IsHeldAs}
+use Rattle.replay.specs.{declared.piece.Piece.Piece, inner.Piece.IsHeldAs}
 use Rattle.replay.proofs.NumberTexts.{digits_without, number_digits, number_once, count_once}
 
 abbrev Without : ℕ → List ℕ → Type 0

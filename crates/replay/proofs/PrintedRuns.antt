@@ -1,16 +1,13 @@
 -- The printed spelling: its pieces are the longest runs, and they spell the schedule.
 use Rattle.std.proofs.Common.{◌≡◌, ◌≢◌, ℕ, ◌+◌, ◌<◌, ◌≤◌, ◌^◌, Bool, true, false, cond, ◌==◌, List, [], ◌∷◌, ◌++◌, length, map, replicate, refl, ap, ◌∙◌, sym, subst, arith, inl, inr, decimal, codes, append_assoc, length-append}
-use Rattle.std.proofs.lemmas.Bool.{cases_eq}
-use Rattle.std.proofs.lemmas.Bool.Decides.{nat_tests}
-use Rattle.std.proofs.lemmas.Slice.Eq.{bytes_eq-Decides}
+use Rattle.std.specs.{List.{All, AllZip, slice_split, join_with_byte}, Str.bytes_eq}
+use Rattle.std.proofs.lemmas.Bool.{cases_eq, Decides.nat_tests}
 use Rattle.std.proofs.lemmas.List.{replicate-append-replicate, length-replicate}
 use Rattle.std.proofs.lemmas.List.Elements.{All-head, All-tail, All-cons, All-nil}
 use Rattle.std.proofs.lemmas.List.Splits.{slice_split_none, slice_split_at}
-use Rattle.std.specs.List.{All, AllZip, slice_split, join_with_byte}
-use Rattle.std.specs.Str.{bytes_eq}
-use Rattle.replay.specs.declared.piece.Piece.{Piece}
+use Rattle.std.proofs.lemmas.Slice.Eq.{bytes_eq-Decides}
 use Rattle.replay.specs.Spelling.{SpellsNumber, SpellsPiece, Spells, pieces_of, steps_of, joined_before, runs_of, piece_text, printed}
-use Rattle.replay.proofs.NumberTexts.{decimal_counts}
+use Rattle.replay.{specs.declared.piece.Piece.Piece, proofs.NumberTexts.decimal_counts}
 use Rattle.replay.proofs.PieceTexts.{same_test, piece_without, has_none, heads, tails}
 
 other_number : (t u : ℕ) → t ≢ u → (t == u) ≡ false

@@ -1,22 +1,15 @@
 -- A text that is read piece by piece.
 use Rattle.std.proofs.Common.{◌≡◌, ℕ, ◌+◌, ◌-◌, ◌<◌, ◌≤◌, ◌==◌, Bool, false, cond, List, [], ◌∷◌, ◌++◌, length, map, take, drop, replicate, get_or, refl, ap, ◌∙◌, sym, subst, arith, codes, append-nil, length-append, Option, Some, None, IsSome, zero, suc}
+use Rattle.std.specs.{Fn.CalledAt, List.{AllZip, slice_split, join_with_byte}, Option.MatchOption}
+use Rattle.std.{specs.Str.bytes_eq, proofs.lemmas.Iterator.YieldsList}
+use Rattle.std.proofs.lemmas.Iterator.{Consumers.YieldsList-at, Splits.YieldsList-from_slice_split}
 use Rattle.std.proofs.lemmas.List.{take-append-drop, drop_more, length-replicate, map_push}
-use Rattle.std.proofs.lemmas.List.Concat.{flat_map-append}
+use Rattle.std.proofs.lemmas.List.{Concat.flat_map-append, Splits.join_with_byte-slice_split}
 use Rattle.std.proofs.lemmas.List.Sums.{sum_by-cons, sum_by-append}
-use Rattle.std.proofs.lemmas.List.Splits.{join_with_byte-slice_split}
-use Rattle.std.proofs.lemmas.Iterator.{YieldsList}
-use Rattle.std.proofs.lemmas.Iterator.Consumers.{YieldsList-at}
-use Rattle.std.proofs.lemmas.Iterator.Splits.{YieldsList-from_slice_split}
 use Rattle.std.specs.Slice.Iter as slice
-use Rattle.std.specs.Fn.{CalledAt}
-use denote.Param.Members.{Mut}
-use denote.Ref.{Bor}
-use Rattle.std.specs.List.{AllZip, slice_split, join_with_byte}
-use Rattle.std.specs.Option.{MatchOption}
-use Rattle.std.specs.Str.{bytes_eq}
-use Rattle.replay.specs.declared.piece.Piece.{Piece}
+use denote.{Param.Members.Mut, Ref.Bor}
 use Rattle.replay.specs.Spelling.{SpellsPiece, IsPiece, SpellEach, Spells, pieces_of, steps_of, length_with_commas, IsReadUpTo, IsBadAt, IsTooLongAt, IsReadable}
-use Rattle.replay.specs.inner.Piece.{IsHeldAs}
+use Rattle.replay.specs.{declared.piece.Piece.Piece, inner.Piece.IsHeldAs}
 use Rattle.replay.proofs.SpelledOnce.{piece_inside, steps_before, each_once}
 
 -- a text that isn't `-`, cut at its commas

@@ -1,25 +1,22 @@
 -- The run of a schedule of a well formed program can be told with the program's names.
-use Rattle.std.proofs.Common.{rules, ◌≡◌, ◌≢◌, ℕ, zero, suc, ◌+◌, ◌<◌, true, List, [], ◌∷◌, length, Option, Some, None, sym, subst, arith}
 use Rattle.std.specs.Prelude.{IfSome}
-use Rattle.std.specs.List.{All, slice_get}
-use Rattle.std.proofs.lemmas.Bool.{false≢true}
+use Rattle.std.proofs.Common.{rules, ◌≡◌, ◌≢◌, ℕ, zero, suc, ◌+◌, ◌<◌, true, List, [], ◌∷◌, length, Option, Some, None, sym, subst, arith}
+use Rattle.std.{specs.List.{All, slice_get}, proofs.lemmas.Bool.false≢true}
 use Rattle.std.proofs.lemmas.List.Elements.{All-nil, All-cons, All-append, All-filter}
-use Rattle.guest_code.specs.declared.program.Instruction.{Instruction}
 use Rattle.guest_code.specs.Program.{Program, IsWellFormed, IsValid, code_of, no_thread}
+use Rattle.guest_code.specs.declared.program.Instruction.{Instruction}
+use Rattle.semantics.specs.Ends.{is_stopped}
+use Rattle.semantics.specs.Machine.{Snapshot, thread_at, next_of, can_do, is_enabled, step, start}
+use Rattle.semantics.specs.{Reachable.{IsOf, IsValidAction}, Work.up_from}
 use Rattle.semantics.specs.declared.state.Action.{Action}
 use Rattle.semantics.specs.declared.state.Action.TheVariants.{OnVariable, OnMutex, OnCondition, OnSemaphore}
-use Rattle.semantics.specs.declared.state.VariableAction.TheVariants.{Load as Loads, Store as Stores, Add as Adds, Cas as Swaps}
-use Rattle.semantics.specs.declared.state.MutexAction.TheVariants.{Lock as Locks}
 use Rattle.semantics.specs.declared.state.ConditionAction.TheVariants.{Signal as Signals}
+use Rattle.semantics.specs.declared.state.MutexAction.TheVariants.{Lock as Locks}
 use Rattle.semantics.specs.declared.state.SemaphoreAction.TheVariants.{Acquire as Acquires}
-use Rattle.semantics.specs.Machine.{Snapshot, thread_at, next_of, can_do, is_enabled, step, start}
-use Rattle.semantics.specs.Work.{up_from}
-use Rattle.semantics_schedules.specs.Schedules.{runs, state_after}
-use Rattle.semantics.specs.Ends.{is_stopped}
-use Rattle.semantics.specs.Reachable.{IsOf, IsValidAction}
-use Rattle.semantics.proofs.ValidActions.{valid_action_at}
+use Rattle.semantics.specs.declared.state.VariableAction.TheVariants.{Load as Loads, Store as Stores, Add as Adds, Cas as Swaps}
+use Rattle.semantics.proofs.{StepsKeepStates.step_is_of, ValidActions.valid_action_at}
 use Rattle.semantics.proofs.WorkFalls.{enabled_below}
-use Rattle.semantics.proofs.StepsKeepStates.{step_is_of}
+use Rattle.semantics_schedules.specs.Schedules.{runs, state_after}
 use Rattle.semantics_schedules.proofs.UnfoldingUnderPrefix.{and_true}
 use Rattle.replay.specs.Run.{Run, act_of, line_at, line_of, lines_from, stopped_in, IsRunOf}
 use Rattle.replay.specs.Trace.{IsValidAct, IsValidLine, IsValidRun}

@@ -1,12 +1,10 @@
 -- What a text spells it spells once, and one error fits a text.
 use Rattle.std.proofs.Common.{◌≡◌, ◌⊎◌, ℕ, ◌+◌, ◌<◌, ◌≤◌, List, [], ◌∷◌, ◌++◌, length, replicate, refl, ap, ◌∙◌, sym, subst, arith, inl, inr}
-use Rattle.std.proofs.lemmas.List.{length-append, length-replicate}
-use Rattle.std.specs.List.{AllZip}
-use Rattle.replay.specs.declared.piece.Piece.{Piece}
+use Rattle.std.{specs.List.AllZip, proofs.lemmas.List.{length-append, length-replicate}}
+use Rattle.replay.specs.Spelling.{SpellsPiece, IsPiece, SpellEach, Spells, pieces_of, steps_of, length_with_commas, IsReadUpTo, IsBadAt, IsTooLongAt, IsReadable, ScheduleErrorMeans}
 use Rattle.replay.specs.declared.error.ScheduleError.{ScheduleError}
 use Rattle.replay.specs.declared.error.ScheduleError.TheVariants.{BadSchedule, TooLong, OutOfMemory}
-use Rattle.replay.specs.Spelling.{SpellsPiece, IsPiece, SpellEach, Spells, pieces_of, steps_of, length_with_commas, IsReadUpTo, IsBadAt, IsTooLongAt, IsReadable, ScheduleErrorMeans}
-use Rattle.replay.proofs.PieceTexts.{piece_once, heads, tails}
+use Rattle.replay.{specs.declared.piece.Piece.Piece, proofs.PieceTexts.{piece_once, heads, tails}}
 
 -- texts spell their pieces once
 pub pieces_once : (texts : List (List ℕ)) (ps qs : List Piece) → AllZip SpellsPiece texts ps →

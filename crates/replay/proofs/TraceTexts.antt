@@ -1,12 +1,11 @@
 -- Texts of lists, with one more element.
 use Rattle.std.proofs.Common.{◌≡◌, ℕ, ℤ, suc, ◌+◌, ◌<◌, List, [], ◌∷◌, ◌++◌, length, take, get_or, refl, ap, ◌∙◌, sym, arith, append_assoc, append-nil, codes, length-take}
+use Rattle.std.specs.{Fmt.{decimal, signed_decimal}, List.flat_map}
 use Rattle.std.proofs.lemmas.List.{take_more, flat_map_more}
-use Rattle.std.specs.List.{flat_map}
-use Rattle.std.specs.Fmt.{decimal, signed_decimal}
 use Rattle.guest_code.specs.Program.{Program}
-use Rattle.replay.specs.declared.run.Line.{Line}
 use Rattle.replay.specs.Run.{Run}
 use Rattle.replay.specs.Trace.{start_line, step_line, step_lines, end_lines, values_text, thread_name, variable_name, act_text, preempt_text, stop_text, kind_text}
+use Rattle.replay.specs.declared.run.Line.{Line}
 
 -- a variable with its value
 abbrev value_text : Program → ℕ → ℤ → List ℕ

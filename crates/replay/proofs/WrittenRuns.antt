@@ -1,13 +1,10 @@
 -- A text that is written run by run.
 use Rattle.std.proofs.Common.{◌≡◌, ◌≢◌, ℕ, ◌+◌, ◌<◌, ◌≤◌, ◌^◌, List, [], ◌∷◌, ◌++◌, length, map, drop, get_or, refl, ap, ◌∙◌, sym, subst, arith, append_assoc, append-nil, inl, inr}
-use Rattle.std.proofs.Math.Path.{transport}
-use Rattle.std.proofs.lemmas.Bool.{cases_eq}
-use Rattle.std.proofs.lemmas.List.{drop_more, drop_all}
-use Rattle.std.proofs.lemmas.List.Concat.{flat_map-append}
-use Rattle.std.proofs.lemmas.List.Elements.{All-from_get_or}
 use Rattle.std.specs.List.{join_with_byte, flat_map}
-use Rattle.replay.specs.declared.piece.Piece.{Piece}
+use Rattle.std.proofs.{Math.Path.transport, lemmas.Bool.cases_eq, lemmas.List.{drop_more, drop_all}}
+use Rattle.std.proofs.lemmas.List.{Concat.flat_map-append, Elements.All-from_get_or}
 use Rattle.replay.specs.Spelling.{Spells, joined_before, runs_of, piece_text, printed}
+use Rattle.replay.specs.declared.piece.Piece.{Piece}
 use Rattle.replay.proofs.PrintedRuns.{joined_same, joined_other, printed_spells}
 
 abbrev with_comma : Piece → List ℕ

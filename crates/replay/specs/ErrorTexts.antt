@@ -1,9 +1,8 @@
 -- What the user is told of a schedule that can't be read or doesn't run.
 use Rattle.std.specs.Prelude.{ℕ, List, ◌++◌, codes}
 use Rattle.std.specs.Fmt.{decimal}
-use Rattle.replay.specs.declared.error.ReplayError.{ReplayError}
+use Rattle.replay.specs.declared.error.{ReplayError.ReplayError, ScheduleError.ScheduleError}
 use Rattle.replay.specs.declared.error.ReplayError.TheVariants as runs
-use Rattle.replay.specs.declared.error.ScheduleError.{ScheduleError}
 use Rattle.replay.specs.declared.error.ScheduleError.TheVariants as texts
 
 -- the number and the name of the refusal, and the place in the schedule

@@ -1,23 +1,21 @@
 -- The run of a schedule, and where a schedule fails to run.
 use Rattle.std.specs.Prelude.{◌≡◌, ℕ, ℤ, ◌<◌, true, false, List, [], ◌∷◌, ◌++◌, length, filter, take, Option, Some, None, if◌then◌else◌, slice_index_or}
-use Rattle.guest_code.specs.declared.program.Value.{Value}
-use Rattle.guest_code.specs.Program.{Program}
-use Rattle.semantics.specs.declared.state.VariableAction.TheVariants.{Load as Loads, Store as Stores, Add as Adds, Cas as Swaps}
-use Rattle.semantics.specs.declared.state.MutexAction.TheVariants.{Lock as Locks, Unlock as Unlocks, Retake as Retakes}
-use Rattle.semantics.specs.declared.state.ConditionAction.TheVariants.{Signal as Signals, Broadcast as Broadcasts}
-use Rattle.semantics.specs.declared.state.SemaphoreAction.TheVariants.{Acquire as Acquires, Release as Releases}
-use Rattle.semantics.specs.declared.state.Action.{Action}
-use Rattle.semantics.specs.declared.state.Action.TheVariants.{OnVariable, OnMutex, Wait as Waits, OnCondition, OnSemaphore}
-use Rattle.semantics.specs.declared.view.Kind.{Kind}
-use Rattle.semantics.specs.Machine.{Snapshot, thread_at, next_of, value_of, value_of_operand, is_expected, var_after, is_enabled, step, start}
-use Rattle.semantics.specs.Work.{up_from}
-use Rattle.semantics_schedules.specs.Schedules.{state_after, runs, preempts, preemptions}
+use Rattle.guest_code.specs.{Program.Program, declared.program.Value.Value}
 use Rattle.semantics.specs.Ends.{is_stopped, stop_of, kind_of}
+use Rattle.semantics.specs.Machine.{Snapshot, thread_at, next_of, value_of, value_of_operand, is_expected, var_after, is_enabled, step, start}
+use Rattle.semantics.specs.{Work.up_from, declared.state.Action.Action}
+use Rattle.semantics.specs.declared.state.Action.TheVariants.{OnVariable, OnMutex, Wait as Waits, OnCondition, OnSemaphore}
+use Rattle.semantics.specs.declared.state.ConditionAction.TheVariants.{Signal as Signals, Broadcast as Broadcasts}
+use Rattle.semantics.specs.declared.state.MutexAction.TheVariants.{Lock as Locks, Unlock as Unlocks, Retake as Retakes}
+use Rattle.semantics.specs.declared.state.SemaphoreAction.TheVariants.{Acquire as Acquires, Release as Releases}
+use Rattle.semantics.specs.declared.state.VariableAction.TheVariants.{Load as Loads, Store as Stores, Add as Adds, Cas as Swaps}
+use Rattle.semantics.specs.declared.view.Kind.{Kind}
+use Rattle.semantics_schedules.specs.Schedules.{state_after, runs, preempts, preemptions}
+use Rattle.replay.specs.declared.error.ReplayError.{ReplayError}
+use Rattle.replay.specs.declared.error.ReplayError.TheVariants.{NoSuchThread, NotEnabled, OutOfMemory}
 use Rattle.replay.specs.declared.run.Act.{Act}
 use Rattle.replay.specs.declared.run.Act.TheVariants.{Load, Store, Add, Cas, Lock, Unlock, Wait, Retake, Signal, Broadcast, Acquire, Release}
 use Rattle.replay.specs.declared.run.Line.{Line}
-use Rattle.replay.specs.declared.error.ReplayError.{ReplayError}
-use Rattle.replay.specs.declared.error.ReplayError.TheVariants.{NoSuchThread, NotEnabled, OutOfMemory}
 
 -- the threads that stopped at the start, a line for each step, the preempting switches,
 -- the values of the variables reached, and how the schedule ends if it is complete

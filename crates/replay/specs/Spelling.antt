@@ -1,14 +1,11 @@
 -- The texts of schedules: what a text spells, and the spelling that is printed.
 use Rattle.std.specs.Prelude.{◌≡◌, ◌≢◌, ◌⊎◌, ℕ, ◌+◌, ◌<◌, ◌≤◌, ◌==◌, if◌then◌else◌, List, [], ◌∷◌, ◌++◌, length, map, replicate, slice_index, codes}
-use Rattle.std.specs.Fmt.{decimal}
-use Rattle.std.specs.List.{slice_split, join_with_byte, sum_by, flat_map, AllZip}
-use Rattle.std.specs.Str.{bytes_eq}
-use Rattle.std.specs.Str.Parse.{IsNumeral, digits_value}
-use Rattle.replay.specs.declared.piece.Piece.{Piece}
-use Rattle.replay.specs.declared.piece.TheConstants.{NUMBERS}
-use Rattle.replay.specs.declared.schedule.TheConstants.{PLACES}
+use Rattle.std.specs.{Fmt.decimal, List.{slice_split, join_with_byte, sum_by, flat_map, AllZip}}
+use Rattle.std.specs.Str.{bytes_eq, Parse.{IsNumeral, digits_value}}
 use Rattle.replay.specs.declared.error.ScheduleError.{ScheduleError}
 use Rattle.replay.specs.declared.error.ScheduleError.TheVariants.{BadSchedule, TooLong, OutOfMemory}
+use Rattle.replay.specs.declared.piece.{Piece.Piece, TheConstants.NUMBERS}
+use Rattle.replay.specs.declared.schedule.TheConstants.{PLACES}
 
 -- pieces
 

@@ -1,16 +1,12 @@
 -- The trace of a run: its text, as a function of the program and the run.
 use Rattle.std.specs.Prelude.{◌≡◌, ℕ, ℤ, ◌+◌, ◌<◌, Bool, true, false, List, [], ◌∷◌, ◌++◌, length, All, Option, Some, None, codes, slice_index_or}
-use Rattle.std.specs.Fmt.{decimal, signed_decimal}
-use Rattle.std.specs.List.{flat_map}
+use Rattle.std.specs.{Fmt.{decimal, signed_decimal}, List.flat_map}
 use Rattle.guest_code.specs.Program.{Program, thread_at, variable_at, semaphore_at}
-use Rattle.semantics.specs.declared.state.Stop.{Stop}
-use Rattle.semantics.specs.declared.state.Stop.TheVariants.{Assert, NotHeld, SemFull}
-use Rattle.semantics.specs.declared.view.Kind.{Kind}
-use Rattle.semantics.specs.declared.view.Kind.TheVariants.{Done, Failed, Stuck}
-use Rattle.replay.specs.declared.run.Act.{Act}
+use Rattle.semantics.specs.declared.state.Stop.{Stop, TheVariants.{Assert, NotHeld, SemFull}}
+use Rattle.semantics.specs.declared.view.Kind.{Kind, TheVariants.{Done, Failed, Stuck}}
+use Rattle.replay.specs.{Run.{Run, run_of}, declared.run.Act.Act}
 use Rattle.replay.specs.declared.run.Act.TheVariants.{Load, Store, Add, Cas, Lock, Unlock, Wait, Retake, Signal, Broadcast, Acquire, Release}
 use Rattle.replay.specs.declared.run.Line.{Line}
-use Rattle.replay.specs.Run.{Run, run_of}
 
 -- names
 

@@ -5,12 +5,10 @@ ghost use Rattle.guest_code.specs.Program.{Program, IsWellFormed};
 ghost use Rattle.semantics.specs.Machine.{start};
 ghost use Rattle.semantics_schedules.specs.Schedules.{runs};
 ghost use Rattle.replay.specs.Run.{Run, IsFirstBad, IsRunOf};
-ghost use Rattle.replay.specs.Trace.{IsValidRun};
 ghost use Rattle.replay.specs.Spelling.{Spells, IsBadAt, IsTooLongAt, ScheduleErrorMeans, printed, pieces_of, piece_text, runs_of, steps_of};
-ghost use Rattle.replay.specs.declared.piece.Piece.{Piece};
-ghost use Rattle.replay.specs.declared.piece.TheConstants.{NUMBERS};
+ghost use Rattle.replay.specs.{Trace.IsValidRun, declared.error.ScheduleError.ScheduleError};
+ghost use Rattle.replay.specs.declared.piece.{Piece.Piece, TheConstants.NUMBERS};
 ghost use Rattle.replay.specs.declared.schedule.TheConstants.{PLACES};
-ghost use Rattle.replay.specs.declared.error.ScheduleError.{ScheduleError};
 
 /// A schedule with a first bad place, the first whose thread isn't enabled there, doesn't run, and
 /// has no other first bad place. So `replay` answers a schedule that runs by its run, and any other

@@ -2,13 +2,11 @@
 
 ghost use Rattle.std.specs.Prelude.{◌≡◌, ◌+◌, ◌^◌, ◌<◌, length, All, IfOk, MatchResult};
 ghost use Rattle.guest_code.specs.Program.{Program};
-ghost use Rattle.semantics.specs.Reachable.{IsOf, IsValidAction, IsValidAccess};
-ghost use Rattle.semantics.specs.Ends.{is_stopped};
-ghost use Rattle.semantics_schedules.specs.Execution.{IsExecutionOf};
+ghost use Rattle.semantics.specs.{Ends.is_stopped, Reachable.{IsOf, IsValidAction, IsValidAccess}};
 ghost use Rattle.semantics.specs.declared.state.Action.TheVariants.{OnVariable};
+ghost use Rattle.semantics_schedules.specs.Execution.{IsExecutionOf};
 ghost use Rattle.replay.specs.Run.{act_of, stopped_in, IsRunOf, ReplayErrorMeans};
-ghost use Rattle.replay.specs.inner.Step.{IsStepOf, RefusalMeans};
-ghost use Rattle.replay.specs.Trace.{IsValidAct, IsValidRun};
+ghost use Rattle.replay.specs.{Trace.{IsValidAct, IsValidRun}, inner.Step.{IsStepOf, RefusalMeans}};
 
 use crate::error::ReplayError;
 use guest_code::program::Program;

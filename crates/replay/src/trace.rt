@@ -1,8 +1,7 @@
 //! The trace of a run: a text, one line for each step.
 
 ghost use Rattle.std.specs.Prelude.{◌≡◌, ◌<◌, ◌++◌, ℕ, List, length, All, IfOk, OnOk};
-ghost use Rattle.std.specs.Fmt.{decimal, signed_decimal};
-ghost use Rattle.std.specs.List.{flat_map};
+ghost use Rattle.std.specs.{Fmt.{decimal, signed_decimal}, List.flat_map};
 ghost use Rattle.replay.specs.Run.{IsRunOf};
 ghost use Rattle.replay.specs.Trace.{Trace, trace, start_line, step_line, step_lines, end_lines, values_text, act_text, hit_text, preempt_text, stop_text, kind_text, IsValidAct, IsValidLine, IsValidRun};
 

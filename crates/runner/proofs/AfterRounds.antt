@@ -1,37 +1,26 @@
 -- What is known of a book that goes on to the next bound, and of the levels that are kept.
-use Rattle.std.proofs.Common.{◌≡◌, ◌∙◌, ℕ, ◌+◌, ◌<◌, ◌≤◌, Bool, true, false, ap, sym}
-use Rattle.std.proofs.Common.{inl, inr, List, [], ◌∷◌, ◌++◌, length, length-append, Option, Some, None}
-use Rattle.std.proofs.Common.{refl, subst, arith, Vec, Global}
-use Rattle.std.proofs.lemmas.Bool.{cases_lt}
-use Rattle.std.proofs.lemmas.Bool.Decides.{nat_tests}
+use Rattle.std.proofs.Common.{◌≡◌, ◌∙◌, ℕ, ◌+◌, ◌<◌, ◌≤◌, Bool, true, false, ap, sym, inl, inr, List, [], ◌∷◌, ◌++◌, length, length-append, Option, Some, None, refl, subst, arith, Vec, Global}
+use Rattle.std.proofs.lemmas.Bool.{cases_lt, Decides.nat_tests}
 use Rattle.guest_code.specs.Program.{Program}
 use Rattle.semantics_schedules.specs.Schedules.{preemptions}
-use Rattle.walk_items.specs.declared.mode.Mode.{Mode}
+use Rattle.walk_items.specs.{Items.{root_of, ItemView, IsItem, item_sum}, Walks.IsWithin}
+use Rattle.walk_items.specs.declared.{limits.TheConstants.BOUND, mode.Mode.Mode}
 use Rattle.walk_items.specs.declared.mode.Mode.TheVariants.{Bounded, Reduced}
-use Rattle.walk_items.specs.declared.limits.TheConstants.{BOUND}
+use Rattle.walk_items.proofs.WalkedItems.{past_none, past_beyond}
 use Rattle.walk_summary.specs.Summaries.{SummaryView, nothing, with_beyond, sum_of}
 use Rattle.walk_summary.proofs.SumsJoin.{sum_of_none}
-use Rattle.walk_items.specs.Items.{root_of}
-use Rattle.walk_items.specs.Items.{ItemView, IsItem, item_sum}
-use Rattle.walk_items.specs.Walks.{IsWithin}
-use Rattle.walk_items.proofs.WalkedItems.{past_none, past_beyond}
-use Rattle.book.specs.Books.{BookView, Keeps, IsAtLastBound, Raises, bound_of}
-use Rattle.book.specs.Books.{opening_of}
+use Rattle.book.specs.Books.{BookView, Keeps, IsAtLastBound, Raises, bound_of, opening_of}
 use Rattle.book.proofs.BoundedSums.{closed_sum, clean_kept_all}
-use Rattle.runner_report.specs.declared.level.Level.{Level}
-use Rattle.runner_report.specs.declared.options.Options.{Options}
-use Rattle.runner_report.specs.declared.options.Search.{Search}
+use Rattle.runner_report.specs.{Promises.IsSearch, declared.level.Level.Level}
+use Rattle.runner_report.specs.declared.options.{Options.Options, Search.Search}
 use Rattle.runner_report.specs.declared.options.Search.TheVariants.{UpTo, Unbounded}
-use Rattle.runner_report.specs.Promises.{IsSearch}
 use Rattle.runner_report.specs.declared.report.Cause.TheVariants.{Limit, Stopped}
-use Rattle.runner.specs.declared.course.Course.{Course}
-use Rattle.runner.specs.declared.judge.Ending.{Ending}
+use Rattle.runner.specs.Levels.{IsModeOf, GoesOn, IsPassed, HasPassed, IsPassedLevel, ArePassedFrom}
+use Rattle.runner.specs.Levels.{AreBelow}
+use Rattle.runner.specs.declared.{course.Course.Course, judge.Ending.Ending}
 use Rattle.runner.specs.declared.judge.Ending.TheVariants.{Whole, Cut}
-use Rattle.runner.specs.Levels.{IsModeOf, GoesOn, IsPassed, HasPassed, IsPassedLevel}
-use Rattle.runner.specs.Levels.{ArePassedFrom, AreBelow}
 use Rattle.runner.specs.inner.Judging.{IsAt, AreKept, HasKept, level_at, begun, lists_at}
-use Rattle.runner.specs.inner.Judging.{bounds_left, first_mode}
-use Rattle.runner.specs.inner.Judging.{IsCourse, HasEnded, Ends}
+use Rattle.runner.specs.inner.Judging.{bounds_left, first_mode, IsCourse, HasEnded, Ends}
 
 -- another bound follows the mode
 abbrev pub HasNext : Search → Mode → Type 0

@@ -1,26 +1,18 @@
 -- Two reports of one program and search that were not cut short say one thing.
-use Rattle.std.proofs.Common.{◌≡◌, inl, inr, ℕ, ◌+◌, ◌<◌, ◌≤◌, Bool, true, false, nat_lt, nat_eq, ◌||◌, ◌&&◌}
-use Rattle.std.proofs.Common.{List, [], ◌∷◌, Option, Some, refl, ap, ◌∙◌, sym, arith, subst}
-use Rattle.std.proofs.Common.{Vec, Global}
-use Rattle.std.proofs.lemmas.Bool.{cases_lt}
-use Rattle.std.proofs.lemmas.Bool.Decides.{nat_tests}
+use Rattle.std.proofs.Common.{◌≡◌, inl, inr, ℕ, ◌+◌, ◌<◌, ◌≤◌, Bool, true, false, nat_lt, nat_eq, ◌||◌, ◌&&◌, List, [], ◌∷◌, Option, Some, refl, ap, ◌∙◌, sym, arith, subst, Vec, Global}
+use Rattle.std.proofs.lemmas.Bool.{cases_lt, Decides.nat_tests}
 use Rattle.guest_code.specs.Program.{Program}
 use Rattle.semantics.specs.declared.view.Kind.{Kind}
-use Rattle.semantics_schedules.specs.Schedules.{preemptions}
-use Rattle.semantics_schedules.specs.Order.{precedes}
-use Rattle.walk_items.specs.declared.mode.Mode.TheVariants.{Bounded}
+use Rattle.semantics_schedules.specs.{Order.precedes, Schedules.preemptions}
+use Rattle.walk_items.specs.{Items.whole, declared.mode.Mode.TheVariants.Bounded}
 use Rattle.walk_summary.specs.Summaries.{SummaryView, end_kind}
-use Rattle.walk_items.specs.Items.{whole}
-use Rattle.runner_report.specs.declared.options.Options.{Options}
-use Rattle.runner_report.specs.declared.options.Search.{Search}
-use Rattle.runner_report.specs.declared.options.Search.TheVariants.{UpTo, Unbounded}
-use Rattle.runner_report.specs.declared.report.Report.{Report}
-use Rattle.runner_report.specs.declared.report.Verdict.{Verdict}
-use Rattle.runner_report.specs.declared.report.Verdict.TheVariants.{Clean, Bad, Incomplete}
-use Rattle.runner_report.specs.Reports.{IsBad, IsClean, SomeExceeds}
-use Rattle.runner_report.specs.Unbounded.{IsFirstBad}
 use Rattle.runner_report.specs.Promises.{IsReport, IsReportFor, IsBoundedVerdict, IsUnboundedVerdict, IsWhole}
 use Rattle.runner_report.specs.ReportText.{verdict_members, report_text, bad_members, clean_members}
+use Rattle.runner_report.specs.{Reports.{IsBad, IsClean, SomeExceeds}, Unbounded.IsFirstBad}
+use Rattle.runner_report.specs.declared.options.{Options.Options, Search.Search}
+use Rattle.runner_report.specs.declared.options.Search.TheVariants.{UpTo, Unbounded}
+use Rattle.runner_report.specs.declared.report.{Report.Report, Verdict.Verdict}
+use Rattle.runner_report.specs.declared.report.Verdict.TheVariants.{Clean, Bad, Incomplete}
 
 -- neither of two schedules comes before the other: they are one
 neither_first : (v w : List ℕ) → precedes v w ≡ false → precedes w v ≡ false → v ≡ w

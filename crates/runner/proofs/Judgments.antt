@@ -1,36 +1,27 @@
 -- What a report says, from what is known where the search has ended.
-use Rattle.std.proofs.Common.{◌≡◌, ◌⊎◌, inl, inr, ℕ, zero, suc, ◌+◌, ◌<◌, ◌≤◌, ◌∙◌, Bool, true}
-use Rattle.std.proofs.Common.{false, not, List, [], ◌∷◌, ◌++◌, Option, Some, None, refl, ap, sym, subst}
-use Rattle.std.proofs.Common.{arith}
+use Rattle.std.proofs.Common.{◌≡◌, ◌⊎◌, inl, inr, ℕ, zero, suc, ◌+◌, ◌<◌, ◌≤◌, ◌∙◌, Bool, true, false, not, List, [], ◌∷◌, ◌++◌, Option, Some, None, refl, ap, sym, subst, arith}
 use mathlib.Core.Logic.{dite}
 use native.Mathlib.Decide.{ℕ_discrete}
 use Rattle.guest_code.specs.Program.{Program}
 use Rattle.semantics_schedules.specs.Schedules.{preemptions}
-use Rattle.walk_items.specs.declared.mode.Mode.{Mode}
+use Rattle.walk_items.specs.{Items.{ItemView, IsItem, root_of, whole}, declared.mode.Mode.Mode}
 use Rattle.walk_items.specs.declared.mode.Mode.TheVariants.{Bounded, Reduced}
-use Rattle.walk_summary.specs.Summaries.{SummaryView, IsBoundedBy, nothing, with_beyond, end_kind}
-use Rattle.walk_items.specs.Items.{ItemView, IsItem, root_of, whole}
 use Rattle.walk_items.proofs.Splits.{root_within, split_closed}
-use Rattle.book.specs.Books.{BookView, Keeps, KeepsWhere, with_deferred}
-use Rattle.book.specs.Progress.{mode_bound}
+use Rattle.walk_summary.specs.Summaries.{SummaryView, IsBoundedBy, nothing, with_beyond, end_kind}
+use Rattle.book.specs.{Books.{BookView, Keeps, KeepsWhere, with_deferred}, Progress.mode_bound}
 use Rattle.book.proofs.BoundedSums.{bounded_itself, closed_sum, never_dropped}
-use Rattle.runner_report.specs.declared.level.Level.{Level}
-use Rattle.runner_report.specs.declared.options.Options.{Options}
-use Rattle.runner_report.specs.declared.options.Search.{Search}
-use Rattle.runner_report.specs.declared.options.Search.TheVariants.{UpTo, Unbounded}
-use Rattle.runner_report.specs.declared.report.Cause.{Cause}
-use Rattle.runner_report.specs.declared.report.Verdict.{Verdict}
-use Rattle.runner_report.specs.declared.report.Verdict.TheVariants.{Clean, Bad, Incomplete}
-use Rattle.runner_report.specs.Reports.{IsBad, IsCause, IsFollowed, IsCutShort}
-use Rattle.runner_report.specs.Unbounded.{IsFirstBad}
 use Rattle.runner_report.specs.Promises.{IsReportFor, IsReport}
-use Rattle.runner.specs.declared.judge.Ending.{Ending}
-use Rattle.runner.specs.declared.judge.Ending.TheVariants.{Whole, Cut}
+use Rattle.runner_report.specs.Reports.{IsBad, IsCause, IsFollowed, IsCutShort}
+use Rattle.runner_report.specs.{Unbounded.IsFirstBad, declared.level.Level.Level}
+use Rattle.runner_report.specs.declared.options.{Options.Options, Search.Search}
+use Rattle.runner_report.specs.declared.options.Search.TheVariants.{UpTo, Unbounded}
+use Rattle.runner_report.specs.declared.report.{Cause.Cause, Verdict.Verdict}
+use Rattle.runner_report.specs.declared.report.Verdict.TheVariants.{Clean, Bad, Incomplete}
 use Rattle.runner.specs.Levels.{IsModeOf, IsLast, GoesOn, HasPassed, HasItemsOf, IsOfProgram}
 use Rattle.runner.specs.Levels.{AreBelow, IsLastSum, AreLevels, IsPassedLevel}
+use Rattle.runner.specs.declared.judge.Ending.{Ending, TheVariants.{Whole, Cut}}
 use Rattle.runner.specs.inner.Judging.{HasPassedBounds, IsFound, IsFinishedIn, IsBoundBelow}
-use Rattle.runner.specs.inner.Judging.{IsVerdictOn, IsAt, Ends, ending_cause, level_at}
-use Rattle.runner.specs.inner.Judging.{report_in}
+use Rattle.runner.specs.inner.Judging.{IsVerdictOn, IsAt, Ends, ending_cause, level_at, report_in}
 use Rattle.runner.proofs.AfterRounds.{has_next, past_level}
 use Rattle.runner.proofs.Promises.{passed_none, none_within, some_exceeds, found_bad, found_none}
 use Rattle.runner.proofs.Promises.{finished_here, finished_below, same_bad, least_within}

@@ -1,22 +1,18 @@
 -- From the sums of whole bounds to what is known of all complete schedules.
-use Rattle.std.proofs.Common.{◌≡◌, ◌⊎◌, inl, inr, ℕ, ◌+◌, ◌≤◌, Bool, true, false, not, cond}
-use Rattle.std.proofs.Common.{List, [], Some, None, refl, ap, ◌∙◌, sym, arith, subst}
-use Rattle.std.specs.List.{filter, Contains}
-use Rattle.std.proofs.lemmas.Bool.{cases_lt}
+use Rattle.std.proofs.Common.{◌≡◌, ◌⊎◌, inl, inr, ℕ, ◌+◌, ◌≤◌, Bool, true, false, not, cond, List}
+use Rattle.std.proofs.Common.{[], Some, None, refl, ap, ◌∙◌, sym, arith, subst}
+use Rattle.std.{specs.List.{filter, Contains}, proofs.lemmas.Bool.cases_lt}
 use Rattle.guest_code.specs.Program.{Program}
+use Rattle.semantics.specs.{Ends.{kind_of, final_kind}, Machine.start, Waiters.In}
 use Rattle.semantics.specs.declared.view.Kind.{Kind}
-use Rattle.semantics.specs.Machine.{start}
-use Rattle.semantics_schedules.specs.Schedules.{complete_schedules, state_after, runs, preemptions, schedules_within}
-use Rattle.semantics_schedules.specs.Order.{precedes, least, ends_badly}
-use Rattle.semantics.specs.Ends.{kind_of, final_kind}
-use Rattle.semantics.specs.Waiters.{In}
-use Rattle.semantics_schedules.proofs.LeastSchedule.{least_none, least_some}
 use Rattle.semantics.proofs.ListMembers.{in_contains, contains_in, in_filter, from_filter}
-use Rattle.semantics_schedules.proofs.StatedLaws.{complete}
+use Rattle.semantics_schedules.specs.Order.{precedes, least, ends_badly}
+use Rattle.semantics_schedules.specs.Schedules.{complete_schedules, state_after, runs, preemptions, schedules_within}
+use Rattle.semantics_schedules.proofs.LeastSchedule.{least_none, least_some}
 use Rattle.semantics_schedules.proofs.SchedulesUnderPrefix.{in_under, in_within, beyond_is, complete_is}
-use Rattle.walk_items.specs.declared.mode.Mode.TheVariants.{Bounded}
+use Rattle.semantics_schedules.proofs.StatedLaws.{complete}
+use Rattle.walk_items.specs.{Items.whole, declared.mode.Mode.TheVariants.Bounded}
 use Rattle.walk_summary.specs.Summaries.{SummaryView, sum_of, end_kind}
-use Rattle.walk_items.specs.Items.{whole}
 use Rattle.runner_report.specs.Reports.{IsBadSchedule, NoBadBelow, SomeExceeds, IsBad, IsClean}
 use Rattle.runner_report.specs.Reports.{IsFinished, IsSummaryOf}
 use Rattle.runner.specs.inner.Judging.{HasPassedBounds}

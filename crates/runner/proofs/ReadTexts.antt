@@ -1,18 +1,15 @@
 -- What a search of a text answers, from what it reads.
 use Rattle.std.proofs.Common.{◌≡◌, ◌≢◌, ℕ, List, Bool, Result, Ok, Err, IfOk, IfErr, subst, sym}
-use Rattle.guest_syntax.specs.declared.error.SyntaxError.{SyntaxError}
+use Rattle.guest_syntax.specs.{Grammar.Spells, Tree.Tree, declared.error.SyntaxError.SyntaxError}
 use Rattle.guest_syntax.specs.declared.error.SyntaxError.TheVariants.{NotAscii, BadChar, Expected}
 use Rattle.guest_syntax.specs.declared.error.SyntaxError.TheVariants.{NumberTooBig, TooLong}
 use Rattle.guest_syntax.specs.declared.error.SyntaxError.TheVariants.{TooDeep, OutOfMemory}
-use Rattle.guest_syntax.specs.Tree.{Tree}
-use Rattle.guest_syntax.specs.Grammar.{Spells}
 use Rattle.guest_code.specs.Program.{Program}
-use Rattle.runner_report.specs.declared.error.ExploreError.{ExploreError}
-use Rattle.runner_report.specs.declared.error.ExploreError.TheVariants as explore
-use Rattle.runner_report.specs.declared.options.Options.{Options}
-use Rattle.runner_report.specs.declared.report.Report.{Report}
 use Rattle.runner_report.specs.Promises.{IsReport}
 use Rattle.runner_report.specs.Texts.{IsProgramOf, ExploreErrorMeans, ExploreMeans, of_syntax}
+use Rattle.runner_report.specs.declared.{error.ExploreError.ExploreError, options.Options.Options}
+use Rattle.runner_report.specs.declared.report.Report.{Report}
+use Rattle.runner_report.specs.declared.error.ExploreError.TheVariants as explore
 
 pub syntax_means : (text : List ℕ) (e : SyntaxError)
     → (e ≢ OutOfMemory → (t : Tree) → Spells text t → ⊥) → ExploreErrorMeans text (of_syntax e)

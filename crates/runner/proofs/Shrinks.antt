@@ -1,26 +1,19 @@
 -- A settled walk leaves less to walk.
-use Rattle.std.proofs.Common.{◌≡◌, ℕ, zero, suc, min, Bool, true, false, cond, not, ◌||◌, ◌+◌, ◌-◌, ◌*◌, ◌^◌, ◌<◌, ◌≤◌}
-use Rattle.std.proofs.Common.{◌⊎◌, inl, inr, ⊎_elim, List, [], ◌∷◌, ◌++◌, length, get_or, take, drop}
-use Rattle.std.proofs.Common.{refl, ap, sym, ◌∙◌, subst, arith, Ok, Some, slice_get, length-append, length-drop}
-use Rattle.std.specs.List.{All, remove, filter, list_any}
-use Rattle.std.proofs.lemmas.Bool.{cases_lt}
+use Rattle.std.proofs.Common.{◌≡◌, ℕ, zero, suc, min, Bool, true, false, cond, not, ◌||◌, ◌+◌, ◌-◌, ◌*◌, ◌^◌, ◌<◌, ◌≤◌, ◌⊎◌, inl, inr, ⊎_elim, List, [], ◌∷◌, ◌++◌, length, get_or, take, drop, refl, ap, sym, ◌∙◌, subst, arith, Ok, Some, slice_get, length-append, length-drop}
+use Rattle.std.{specs.List.{All, remove, filter, list_any}, proofs.lemmas.Bool.cases_lt}
 use Rattle.std.proofs.lemmas.List.{get_or-drop, nil_from_length}
 use Rattle.std.proofs.lemmas.List.Elements.{All-nil, All-cons, All-head, All-tail, All-weaker}
 use mathlib.Core.Logic.{dite}
 use native.Mathlib.Decide.{ℕ_discrete}
-use Rattle.walk_items.specs.declared.mode.Mode.{Mode}
-use Rattle.walk_summary.specs.Summaries.{cut, nothing}
-use Rattle.walk.specs.declared.found.Found.{Found}
-use Rattle.walk.specs.Founds.{HasAdded}
 use Rattle.walk_items.specs.Items.{ItemView, schedule_count, schedules_of}
-use Rattle.walk_items.specs.Walks.{WalkView, IsWalked, tried_by}
+use Rattle.walk_items.specs.{Walks.{WalkView, IsWalked, tried_by}, declared.mode.Mode.Mode}
 use Rattle.walk_items.proofs.WalkedItems.{walked_counts, walked_count}
+use Rattle.walk_summary.specs.Summaries.{cut, nothing}
+use Rattle.walk.specs.{Founds.HasAdded, declared.found.Found.Found}
 use Rattle.book.specs.Books.{BookView, Settles, AreWalksAt, HaveFound, HaveSettled, StandInOrder}
 use Rattle.book.specs.Books.{IsWithinQuota, HasWalkedRound, places_from, drops, thinned}
-use Rattle.book.specs.declared.limits.TheConstants.{ROUND}
-use Rattle.book.proofs.Gathered.{none_found, one_more_found}
-use Rattle.book.proofs.DroppedCounts.{nothing_dropped}
-use Rattle.book.proofs.Lists.{parted}
+use Rattle.book.{specs.declared.limits.TheConstants.ROUND, proofs.DroppedCounts.nothing_dropped}
+use Rattle.book.proofs.{Gathered.{none_found, one_more_found}, Lists.parted}
 use Rattle.runner.specs.inner.Shrinking.{IsSmaller, HasLess, Went, Goes}
 
 count-append : (mode : Mode) (l r : List ItemView)

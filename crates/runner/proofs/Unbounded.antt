@@ -1,22 +1,19 @@
 -- From the sum of what sleep sets leave to what is known of all complete schedules.
-use Rattle.std.proofs.Common.{◌≡◌, ℕ, Bool, true, false, List, [], map, Some, None}
-use Rattle.std.proofs.Common.{refl, ap, ◌∙◌, sym, subst}
+use Rattle.std.proofs.Common.{◌≡◌, ℕ, Bool, true, false, List, [], map, Some, None, refl, ap, ◌∙◌}
+use Rattle.std.proofs.Common.{sym, subst}
 use Rattle.std.specs.List.{filter}
 use Rattle.guest_code.specs.Program.{Program}
-use Rattle.semantics.specs.declared.view.Kind.{Kind}
-use Rattle.semantics.specs.Machine.{start}
+use Rattle.semantics.specs.{Machine.start, Waiters.In, declared.view.Kind.Kind}
+use Rattle.semantics.proofs.ListMembers.{in_contains, contains_in, in_filter, from_filter}
+use Rattle.semantics_schedules.specs.Order.{least, ends_badly, end_of}
 use Rattle.semantics_schedules.specs.Schedules.{complete_schedules, preemptions}
 use Rattle.semantics_schedules.specs.Sleep.{reduced_schedules, none_asleep}
-use Rattle.semantics_schedules.specs.Order.{least, ends_badly, end_of}
-use Rattle.semantics.specs.Waiters.{In}
 use Rattle.semantics_schedules.proofs.LeastSchedule.{least_none, least_some}
-use Rattle.semantics.proofs.ListMembers.{in_contains, contains_in, in_filter, from_filter}
 use Rattle.semantics_schedules.proofs.ReducedSchedules.{least_bad, ends_pass}
-use Rattle.walk_items.specs.declared.mode.Mode.TheVariants.{Reduced}
-use Rattle.walk_summary.specs.Summaries.{SummaryView, sum_of, end_kind, sorted_views}
 use Rattle.walk_items.specs.Items.{whole, root_of, kept_schedules}
+use Rattle.walk_items.{specs.declared.mode.Mode.TheVariants.Reduced, proofs.WalkedItems.root_pruned}
+use Rattle.walk_summary.specs.Summaries.{SummaryView, sum_of, end_kind, sorted_views}
 use Rattle.walk_summary.proofs.SortedViews.{sorted_views-alike}
-use Rattle.walk_items.proofs.WalkedItems.{root_pruned}
 use Rattle.runner_report.specs.Reports.{IsSummaryOf}
 use Rattle.runner_report.specs.Unbounded.{IsReducedSummary, IsReducedSummaryOf, IsFirstBad, HasNoBad}
 use Rattle.runner.proofs.Promises.{same_bad}

@@ -1,20 +1,17 @@
 -- Where a search was cut short at a bound, schedules are left to be tried, or the next bound.
 use Rattle.std.proofs.Common.{◌≡◌, ◌⊎◌, inl, inr, ℕ, ◌<◌, ◌≤◌, Bool, List, [], ◌∷◌, ◌++◌, length}
 use Rattle.std.proofs.Common.{length-append, Option, refl, ap, ◌∙◌, arith}
-use Rattle.std.specs.List.{flat_map, Contains}
-use Rattle.std.proofs.lemmas.List.Elements.{All-head}
+use Rattle.std.{specs.List.{flat_map, Contains}, proofs.lemmas.List.Elements.All-head}
 use Rattle.std.proofs.lemmas.List.Sorted.{length_permutation}
 use Rattle.guest_code.specs.Program.{Program}
 use Rattle.semantics_schedules.specs.Schedules.{preemptions, schedules_within}
 use Rattle.semantics_schedules.proofs.PrefixesExtend.{extends_within}
+use Rattle.walk_items.specs.{Items.{ItemView, root_of, schedules_of}, Walks.{IsBelow, IsSplit}}
 use Rattle.walk_items.specs.declared.mode.Mode.TheVariants.{Bounded}
-use Rattle.walk_summary.specs.Summaries.{SummaryView, cut, sum_of, with_beyond}
-use Rattle.walk_items.specs.Items.{ItemView, root_of, schedules_of}
-use Rattle.walk_items.specs.Walks.{IsBelow, IsSplit}
 use Rattle.walk_items.proofs.Splits.{root_within, split_moved}
-use Rattle.runner_report.specs.declared.options.Search.TheVariants.{UpTo}
-use Rattle.runner_report.specs.declared.report.Cause.{Cause}
+use Rattle.walk_summary.specs.Summaries.{SummaryView, cut, sum_of, with_beyond}
 use Rattle.runner_report.specs.Reports.{IsFollowed, IsCutShort}
+use Rattle.runner_report.specs.declared.{options.Search.TheVariants.UpTo, report.Cause.Cause}
 
 counted : (p : Program) (L : List (List ℕ)) (b : Bool)
     → (with_beyond (sum_of p L) b).tried ≡ cut (length L)

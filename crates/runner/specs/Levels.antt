@@ -1,20 +1,15 @@
 -- How a search goes from bound to bound, and what its levels are.
-use Rattle.std.specs.Prelude.{◌≡◌, ℕ, ◌<◌, ◌≤◌, ◌+◌, Bool, true, List, [], ◌∷◌, ◌++◌, length, Contains}
-use Rattle.std.specs.Prelude.{Option, Some, None}
+use Rattle.std.specs.Prelude.{◌≡◌, ℕ, ◌<◌, ◌≤◌, ◌+◌, Bool, true, List, [], ◌∷◌, ◌++◌, length, Contains, Option, Some, None}
 use Rattle.guest_code.specs.Program.{Program}
 use Rattle.semantics.specs.Machine.{start}
 use Rattle.semantics_schedules.specs.Schedules.{complete_schedules}
-use Rattle.walk_items.specs.declared.mode.Mode.{Mode}
+use Rattle.walk_items.specs.{Items.{ItemView, item_sum}, Walks.IsSplit, declared.mode.Mode.Mode}
 use Rattle.walk_items.specs.declared.mode.Mode.TheVariants.{Bounded, Reduced}
 use Rattle.walk_summary.specs.Summaries.{SummaryView}
-use Rattle.walk_items.specs.Items.{ItemView, item_sum}
-use Rattle.walk_items.specs.Walks.{IsSplit}
 use Rattle.book.specs.Progress.{mode_bound}
-use Rattle.runner_report.specs.declared.level.Level.{Level}
-use Rattle.runner_report.specs.declared.options.Search.{Search}
-use Rattle.runner_report.specs.declared.options.Search.TheVariants.{UpTo, Unbounded}
+use Rattle.runner_report.specs.{Reports.IsCause, declared.level.Level.Level}
+use Rattle.runner_report.specs.declared.options.Search.{Search, TheVariants.{UpTo, Unbounded}}
 use Rattle.runner_report.specs.declared.report.Cause.{Cause}
-use Rattle.runner_report.specs.Reports.{IsCause}
 
 -- the search comes to the mode
 abbrev pub IsModeOf : Search → Mode → Type 0

@@ -2,10 +2,9 @@
 
 ghost use Rattle.std.specs.Prelude.{◌≡◌, ◌≤◌, false, IfOk, IfErr, OnOk};
 ghost use Rattle.std.specs.Arc.{arc_value};
-ghost use Rattle.runner_report.specs.declared.error.ExploreError.TheVariants.{OutOfMemory};
 ghost use Rattle.runner_report.specs.Promises.{IsSearch, IsReport};
-ghost use Rattle.runner.specs.inner.Judging.{IsAt, ComesAfter, HasEnded};
-ghost use Rattle.runner.specs.inner.Shrinking.{Went, Goes};
+ghost use Rattle.runner_report.specs.declared.error.ExploreError.TheVariants.{OutOfMemory};
+ghost use Rattle.runner.specs.inner.{Judging.{IsAt, ComesAfter, HasEnded}, Shrinking.{Went, Goes}};
 
 use crate::course::{Course, begin_search, raise};
 use crate::judge::{Ending, Next, judge};

@@ -6,15 +6,12 @@ ghost use Rattle.guest_code.specs.Program.{Program};
 ghost use Rattle.semantics_schedules.specs.Schedules.{schedules_within};
 ghost use Rattle.walk_items.specs.declared.mode.Mode.TheVariants.{Bounded};
 ghost use Rattle.walk_summary.specs.Summaries.{SummaryView};
-ghost use Rattle.runner_report.specs.declared.limits.TheConstants.{QUOTA};
-ghost use Rattle.runner_workers.specs.declared.limits.TheConstants.{WORKERS};
-ghost use Rattle.runner_report.specs.declared.options.Options.{Options};
-ghost use Rattle.runner_report.specs.declared.options.Search.TheVariants.{UpTo};
-ghost use Rattle.runner_report.specs.declared.report.Cause.{Cause};
-ghost use Rattle.runner_report.specs.declared.report.Report.{Report};
+ghost use Rattle.runner_report.specs.{Promises.{IsReport, IsWhole}, ReportText.report_text};
 ghost use Rattle.runner_report.specs.Reports.{IsFollowed, IsCutShort};
-ghost use Rattle.runner_report.specs.Promises.{IsReport, IsWhole};
-ghost use Rattle.runner_report.specs.ReportText.{report_text};
+ghost use Rattle.runner_report.specs.declared.{limits.TheConstants.QUOTA, options.Options.Options};
+ghost use Rattle.runner_report.specs.declared.{options.Search.TheVariants.UpTo, report.Cause.Cause};
+ghost use Rattle.runner_report.specs.declared.report.Report.{Report};
+ghost use Rattle.runner_workers.specs.declared.limits.TheConstants.{WORKERS};
 
 use crate::limits::{QUOTA, WORKERS};
 

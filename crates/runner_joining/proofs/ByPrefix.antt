@@ -1,21 +1,17 @@
 -- What is so of the parts of a prefix, as a map has them.
 use Rattle.std.proofs.Common.{◌≡◌, ◌<◌, ◌+◌, ◌∙◌, ◌++◌, ◌∷◌, ℕ, Bool, true, false, cond, List, []}
-use Rattle.std.proofs.Common.{length, get_or, take, map, refl, ap, sym, subst, bytes_eq}
-use Rattle.std.proofs.Common.{Option, Some, Vec, Global}
-use denote.Ref.{Bor}
-use Rattle.std.specs.BTreeMap.{BTreeMap, get_by}
-use Rattle.std.specs.Cmp.Lexicographic.{slice_cmp}
-use Rattle.std.specs.List.{All, Contains}
-use Rattle.std.specs.Option.{option_map_or}
-use Rattle.std.specs.Ordering.{nat_cmp}
+use Rattle.std.proofs.Common.{length, get_or, take, map, refl, ap, sym, subst, bytes_eq, Option}
+use Rattle.std.proofs.Common.{Some, Vec, Global}
+use Rattle.std.specs.{BTreeMap.{BTreeMap, get_by}, Cmp.Lexicographic.slice_cmp}
+use Rattle.std.specs.{List.{All, Contains}, Option.option_map_or, Ordering.nat_cmp}
 use Rattle.std.proofs.lemmas.List.{append-nil}
 use Rattle.std.proofs.lemmas.List.Elements.{All-contains, All-map, Contains-get_or, filter_more}
 use Rattle.std.proofs.lemmas.Slice.Eq.{bytes_eq-Decides}
+use denote.Ref.{Bor}
 use Rattle.semantics.specs.Waiters.{In}
 use Rattle.semantics.proofs.ListMembers.{in_contains, contains_in, in_filter, from_filter, in_map, at_in}
 use Rattle.runner_parts.specs.declared.part.Part.{Part}
-use Rattle.runner_joining.specs.Parts.{Tells, Differ}
-use Rattle.runner_joining.specs.inner.Lines.{AreByPrefix, parts_under}
+use Rattle.runner_joining.specs.{Parts.{Tells, Differ}, inner.Lines.{AreByPrefix, parts_under}}
 
 -- the parts that were found of a prefix
 abbrev pub lines_of : Option (Vec (Bor Part) Global) → List Part

@@ -1,30 +1,24 @@
 -- What a search under a prefix finds is honest.
 use Rattle.std.proofs.Common.{◌≡◌, ◌⊎◌, inl, inr, ℕ, ◌+◌, Bool, true, false, List, [], ◌∷◌, refl}
 use Rattle.std.proofs.Common.{ap, ◌∙◌, sym, subst, Option, None}
-use Rattle.std.specs.List.{Contains, filter}
-use Rattle.std.proofs.lemmas.List.Elements.{Contains-push_cases}
+use Rattle.std.{specs.List.{Contains, filter}, proofs.lemmas.List.Elements.Contains-push_cases}
 use Rattle.guest_code.specs.Program.{Program}
-use Rattle.semantics.specs.Machine.{start}
-use Rattle.semantics.specs.Waiters.{In}
+use Rattle.semantics.specs.{Machine.start, Waiters.In}
 use Rattle.semantics.proofs.ListMembers.{contains_in, in_filter}
 use Rattle.semantics_schedules.specs.Schedules.{begins_with, complete_schedules, schedules_under}
 use Rattle.semantics_schedules.proofs.ReducedSchedules.{in_red}
-use Rattle.walk_summary.specs.Summaries.{sum_of, with_beyond}
-use Rattle.walk_summary.proofs.SumsJoin.{sum_of_none}
-use Rattle.walk_items.specs.declared.mode.Mode.{Mode}
-use Rattle.walk_items.specs.declared.mode.Mode.TheVariants.{Bounded, Reduced}
+use Rattle.walk_summary.{specs.Summaries.{sum_of, with_beyond}, proofs.SumsJoin.sum_of_none}
 use Rattle.walk_items.specs.Items.{ItemView, root_of, schedules_of, everything, item_sum}
-use Rattle.walk_items.proofs.Filters.{filter_same, filter_none}
-use Rattle.walk_items.proofs.WalkedItems.{root_pruned}
+use Rattle.walk_items.specs.declared.mode.Mode.{Mode, TheVariants.{Bounded, Reduced}}
+use Rattle.walk_items.proofs.{Filters.{filter_same, filter_none}, WalkedItems.root_pruned}
 use Rattle.book.specs.Progress.{mode_bound}
 use Rattle.walk_cover.specs.Under.{IsUnder, HasNoneUnder}
-use Rattle.runner_report.specs.declared.level.Level.{Level}
-use Rattle.runner_report.specs.declared.options.Search.{Search}
+use Rattle.runner_report.specs.declared.{level.Level.Level, options.Search.Search}
 use Rattle.runner_report.specs.declared.options.Search.TheVariants.{UpTo, Unbounded}
 use Rattle.runner.specs.Levels.{IsModeOf, ArePassedFrom, AreBelow, AreLevels, IsLastSum}
 use Rattle.runner_parts.specs.declared.part.Part.{Part}
-use Rattle.runner_joining.specs.Parts.{mode_at, last_mode, IsHonest}
 use Rattle.runner_joining.specs.Found.{AreLevelsUnder, IsFound, empty_level}
+use Rattle.runner_joining.specs.Parts.{mode_at, last_mode, IsHonest}
 
 -- the level, if it was not cut short, is the sum of what is under the prefix
 abbrev IsHonestLevel : Program → List ℕ → Level → Type 0

@@ -1,34 +1,25 @@
 -- What honest parts tell is what there is, and their sum the program's.
-use Rattle.std.proofs.Common.{◌≡◌, ◌⊎◌, inl, inr, ℕ, ◌+◌, ◌<◌, ◌≤◌, Bool, true, false, cond}
-use Rattle.std.proofs.Common.{List, [], ◌∷◌, ◌++◌, map, take, ap, refl, ◌∙◌, sym, subst, arith}
-use Rattle.std.proofs.Common.{Option, Some, None, get_or, length}
 use Rattle.std.specs.Prelude.{IfSome, IfNone}
-use Rattle.std.specs.List.{All, AllZip, Contains}
-use Rattle.std.proofs.lemmas.List.{take_more}
+use Rattle.std.proofs.Common.{◌≡◌, ◌⊎◌, inl, inr, ℕ, ◌+◌, ◌<◌, ◌≤◌, Bool, true, false, cond, List}
+use Rattle.std.proofs.Common.{[], ◌∷◌, ◌++◌, map, take, ap, refl, ◌∙◌, sym, subst, arith, Option}
+use Rattle.std.proofs.Common.{Some, None, get_or, length}
+use Rattle.std.{specs.List.{All, AllZip, Contains}, proofs.lemmas.List.take_more}
 use Rattle.std.proofs.lemmas.List.Elements.{All-contains, All-head, All-tail}
 use Rattle.guest_code.specs.Program.{Program}
 use Rattle.semantics.proofs.ListMembers.{in_contains, at_in, in_map}
 use Rattle.semantics_schedules.specs.Order.{lesser, precedes}
 use Rattle.walk_summary.specs.Summaries.{SummaryView, nothing, join}
 use Rattle.walk_summary.proofs.SumsJoin.{join_comm, join_assoc, join_first_bad}
-use Rattle.walk_items.specs.declared.mode.Mode.{Mode}
-use Rattle.walk_items.specs.declared.mode.Mode.TheVariants.{Bounded}
 use Rattle.walk_items.specs.Items.{ItemView, root_of, item_sum, item_sums, whole}
-use Rattle.walk_cover.specs.Covers.{IsCover}
-use Rattle.walk_cover.specs.CoverBy.{IsCoverBy}
-use Rattle.walk_cover.specs.Under.{IsUnder}
-use Rattle.walk_cover.proofs.Covers.{cover_sum}
-use Rattle.walk_cover.proofs.Lengths.{same_cover}
-use Rattle.walk_cover.proofs.Settled.{settled_sum}
-use Rattle.runner_report.specs.declared.options.Options.{Options}
-use Rattle.runner_report.specs.declared.options.Search.{Search}
-use Rattle.runner_report.specs.declared.options.Search.TheVariants.{UpTo, Unbounded}
+use Rattle.walk_items.specs.declared.mode.Mode.{Mode, TheVariants.Bounded}
+use Rattle.walk_cover.specs.{CoverBy.IsCoverBy, Covers.IsCover, Under.IsUnder}
+use Rattle.walk_cover.proofs.{Covers.cover_sum, Lengths.same_cover, Settled.settled_sum}
+use Rattle.runner_report.specs.{Promises.IsReport, declared.options.Options.Options}
+use Rattle.runner_report.specs.declared.options.Search.{Search, TheVariants.{UpTo, Unbounded}}
 use Rattle.runner_report.specs.declared.report.Report.{Report}
-use Rattle.runner_report.specs.Promises.{IsReport}
 use Rattle.runner_parts.specs.declared.part.Part.{Part}
 use Rattle.runner.specs.Levels.{IsModeOf, GoesOn, HasPassed, IsOfProgram}
-use Rattle.runner_joining.specs.Parts.{options_of, mode_at, last_mode, prefixes_for, IsHonest, AreHonest}
-use Rattle.runner_joining.specs.Parts.{IsTrue, IsSettled, Tells, AreTold, GoesOnAt, ComesTo, sum_told}
+use Rattle.runner_joining.specs.Parts.{options_of, mode_at, last_mode, prefixes_for, IsHonest, AreHonest, IsTrue, IsSettled, Tells, AreTold, GoesOnAt, ComesTo, sum_told}
 
 -- the modes and bounds that the search comes to
 

@@ -1,15 +1,12 @@
 -- A run that is bad and within a bound is a bad schedule within it.
-use Rattle.std.proofs.Common.{◌≡◌, ℕ, ◌≤◌, Bool, true, false, cond, List, refl, ap, ◌∙◌, sym}
-use Rattle.std.proofs.Common.{subst, arith, Option, Some, None}
-use Rattle.std.proofs.lemmas.Bool.{and_parts, and_from}
-use Rattle.std.proofs.lemmas.Bool.Decides.{nat_tests}
+use Rattle.std.proofs.Common.{◌≡◌, ℕ, ◌≤◌, Bool, true, false, cond, List, refl, ap, ◌∙◌, sym, subst}
+use Rattle.std.proofs.Common.{arith, Option, Some, None}
+use Rattle.std.proofs.lemmas.Bool.{and_parts, and_from, Decides.nat_tests}
 use Rattle.guest_code.specs.Program.{Program}
-use Rattle.semantics.specs.Machine.{Snapshot, start}
-use Rattle.semantics.specs.Ends.{is_terminal, kind_of, view_at}
+use Rattle.semantics.specs.{Ends.{is_terminal, kind_of, view_at}, Machine.{Snapshot, start}}
 use Rattle.semantics.specs.View.{is_bad}
 use Rattle.semantics_schedules.specs.Schedules.{state_after, preemptions}
-use Rattle.semantics_schedules.proofs.SchedulesUnderPrefix.{complete_is}
-use Rattle.semantics_schedules.proofs.StatedLaws.{complete}
+use Rattle.semantics_schedules.proofs.{SchedulesUnderPrefix.complete_is, StatedLaws.complete}
 use Rattle.replay.specs.Run.{Run, IsRunOf, IsFirstBad, run_of}
 use Rattle.replay.proofs.FirstBadPlace.{first_bad_fails}
 use Rattle.runner_parts.specs.declared.part.Part.{Part}

@@ -2,10 +2,9 @@
 use Rattle.std.specs.Prelude.{ℕ, Bool, true, false, List, [], ◌++◌, Option, Some, None, codes}
 use Rattle.std.specs.Fmt.{decimal}
 use Rattle.replay.specs.Spelling.{printed}
-use Rattle.runner_joining.specs.declared.error.PartPlace.{PartPlace}
 use Rattle.runner_joining.specs.declared.error.JoinError.{JoinError}
-use Rattle.runner_joining.specs.declared.error.JoinError.TheVariants.{Missing, Nested, Unused, Lacks}
-use Rattle.runner_joining.specs.declared.error.JoinError.TheVariants.{Cut, Disagree, Untrue, OutOfMemory}
+use Rattle.runner_joining.specs.declared.error.JoinError.TheVariants.{Missing, Nested, Unused, Lacks, Cut, Disagree, Untrue, OutOfMemory}
+use Rattle.runner_joining.specs.declared.error.PartPlace.{PartPlace}
 
 abbrev pub bound_text : Option ℕ → List ℕ
 bound_text None = []

@@ -4,8 +4,7 @@ use Rattle.guest_code.specs.Program.{Program}
 use Rattle.walk_summary.specs.Summaries.{nothing}
 use Rattle.walk_items.specs.Items.{ItemView}
 use Rattle.walk_cover.specs.Under.{IsUnder, HasNoneUnder}
-use Rattle.runner_report.specs.declared.level.Level.{Level}
-use Rattle.runner_report.specs.declared.options.Options.{Options}
+use Rattle.runner_report.specs.declared.{level.Level.Level, options.Options.Options}
 use Rattle.runner.specs.Levels.{AreLevels}
 use Rattle.runner_parts.specs.declared.part.Part.{Part}
 use Rattle.runner_joining.specs.Parts.{last_mode}

@@ -4,27 +4,20 @@ use Rattle.std.specs.Prelude.{◌∷◌, map, filter, All, Contains, Option, Som
 use Rattle.std.specs.List.{AllZip}
 use Rattle.guest_code.specs.Program.{Program}
 use Rattle.semantics_schedules.specs.Schedules.{begins_with, preemptions}
-use Rattle.walk_items.specs.declared.mode.Mode.{Mode}
+use Rattle.walk_items.specs.{Items.{ItemView, item_sum}, declared.mode.Mode.Mode}
 use Rattle.walk_items.specs.declared.mode.Mode.TheVariants.{Bounded, Reduced}
 use Rattle.walk_summary.specs.Summaries.{SummaryView, nothing, join}
-use Rattle.walk_items.specs.Items.{ItemView, item_sum}
-use Rattle.walk_cover.specs.Under.{IsUnder}
+use Rattle.walk_cover.specs.{CoverBy.{IsCoverBy, IsMissing, AreNested, IsUnused}, Under.IsUnder}
 use Rattle.walk_cover.specs.declared.covering.CoverError.{CoverError}
-use Rattle.walk_cover.specs.declared.covering.CoverError.TheVariants.{Missing as NoneUnder, Nested as NestedIn}
-use Rattle.walk_cover.specs.declared.covering.CoverError.TheVariants.{Unused as NoUse, OutOfMemory as NoMemory}
-use Rattle.walk_cover.specs.CoverBy.{IsCoverBy, IsMissing, AreNested, IsUnused}
-use Rattle.runner_report.specs.declared.level.Level.{Level}
-use Rattle.runner_report.specs.declared.limits.TheConstants.{QUOTA}
-use Rattle.runner_report.specs.declared.options.Options.{Options}
-use Rattle.runner_report.specs.declared.options.Search.{Search}
-use Rattle.runner_report.specs.declared.options.Search.TheVariants.{UpTo, Unbounded}
-use Rattle.runner_report.specs.Reports.{IsBadSchedule}
+use Rattle.walk_cover.specs.declared.covering.CoverError.TheVariants.{Missing as NoneUnder, Nested as NestedIn, Unused as NoUse, OutOfMemory as NoMemory}
+use Rattle.runner_report.specs.{Reports.IsBadSchedule, declared.level.Level.Level}
+use Rattle.runner_report.specs.declared.{limits.TheConstants.QUOTA, options.Options.Options}
+use Rattle.runner_report.specs.declared.options.Search.{Search, TheVariants.{UpTo, Unbounded}}
 use Rattle.runner_parts.specs.declared.part.Part.{Part}
 use Rattle.runner.specs.Levels.{IsModeOf, GoesOn}
-use Rattle.runner_joining.specs.declared.error.PartPlace.{PartPlace}
 use Rattle.runner_joining.specs.declared.error.JoinError.{JoinError}
-use Rattle.runner_joining.specs.declared.error.JoinError.TheVariants.{Missing, Nested, Unused, Lacks}
-use Rattle.runner_joining.specs.declared.error.JoinError.TheVariants.{Cut, Disagree, Untrue, OutOfMemory}
+use Rattle.runner_joining.specs.declared.error.JoinError.TheVariants.{Missing, Nested, Unused, Lacks, Cut, Disagree, Untrue, OutOfMemory}
+use Rattle.runner_joining.specs.declared.error.PartPlace.{PartPlace}
 
 -- the mode of a bound, or of none
 abbrev pub mode_at : Option ℕ → Mode

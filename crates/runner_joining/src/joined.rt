@@ -3,13 +3,10 @@
 ghost use Rattle.std.specs.Prelude.{◌≡◌, false, IfOk, IfErr, IfSome, IfNone, All, Contains, map};
 ghost use Rattle.std.specs.Arc.{arc_value};
 ghost use Rattle.walk_cover.specs.CoverBy.{IsCoverBy};
-ghost use Rattle.runner_report.specs.Promises.{IsReport};
-ghost use Rattle.runner_report.specs.declared.options.Search.{Search};
+ghost use Rattle.runner_report.specs.{Promises.IsReport, declared.options.Search.Search};
 ghost use Rattle.runner.specs.Levels.{IsModeOf, IsLast};
 ghost use Rattle.guest_code.specs.Program.{Program};
-ghost use Rattle.runner_joining.specs.Parts.{AreHonest, AreTested, IsTrue, IsLacking, JoinErrorMeans};
-ghost use Rattle.runner_joining.specs.Parts.{AreTold, GoesOnAt, ComesTo, Tells};
-ghost use Rattle.runner_joining.specs.Parts.{prefixes_for, last_mode, mode_at, options_of};
+ghost use Rattle.runner_joining.specs.Parts.{AreHonest, AreTested, IsTrue, IsLacking, JoinErrorMeans, AreTold, GoesOnAt, ComesTo, Tells, prefixes_for, last_mode, mode_at, options_of};
 
 use crate::bad_schedules::check_schedules;
 use crate::by_prefix::{PartsByPrefix, any_cut_short};

@@ -4,8 +4,7 @@ ghost use Rattle.std.specs.Prelude.{List, All};
 ghost use Rattle.guest_code.specs.Program.{Program};
 ghost use Rattle.runner_report.specs.declared.options.Search.{Search};
 ghost use Rattle.runner_parts.specs.declared.part.Part.{Part};
-ghost use Rattle.runner_joining.specs.Parts.{AreHonest};
-ghost use Rattle.runner_joining.specs.Found.{IsFound};
+ghost use Rattle.runner_joining.specs.{Found.IsFound, Parts.AreHonest};
 
 /// What searches under prefixes find is honest, whatever each was asked for. So what
 /// [`join`](crate::join) makes of such parts is a report of the program.

@@ -1,20 +1,17 @@
 -- Parts, line by line.
 use Rattle.std.proofs.Common.{◌≡◌, refl, sym, ap, subst, ◌∙◌, arith, ℕ, ◌<◌, ◌+◌, ◌==◌, Bool, true, false, List, [], ◌∷◌, ◌++◌, length, map, take, drop, get_or, min, All, append_assoc, append-nil, Option, Some}
-use Rattle.std.proofs.lemmas.List.{drop_more, drop_all, take-append-drop}
-use Rattle.std.proofs.lemmas.Iterator.{YieldsList}
+use Rattle.std.{specs.Fn.CalledAt, specs.Iterator.Yields, proofs.lemmas.Iterator.YieldsList}
 use Rattle.std.proofs.lemmas.Iterator.Consumers.{YieldsList-at, YieldsList-so_far, YieldsList-turn}
-use Rattle.std.specs.Iterator.{Yields}
 use Rattle.std.proofs.lemmas.Iterator.Splits.{YieldsList-from_slice_split}
-use Rattle.std.specs.Slice.Iter as slice
-use Rattle.std.specs.Fn.{CalledAt}
-use denote.Param.Members.{Mut}
-use denote.Ref.{Bor}
+use Rattle.std.proofs.lemmas.List.{drop_more, drop_all, take-append-drop}
 use Rattle.std.proofs.lemmas.List.Elements.{All-cons, All-head, All-nil, All-tail}
+use Rattle.std.specs.Slice.Iter as slice
+use denote.{Param.Members.Mut, Ref.Bor}
+use Rattle.runner_parts.specs.Lines.{lines_of, is_blank, AreLinesOf, IsFirstRefused}
 use Rattle.runner_parts.specs.PartText.{PartView, IsPart, IsLineOf}
-use Rattle.walk_summary.specs.Summaries.{cut, greatest_count}
 use Rattle.runner_parts.specs.declared.error.LineError.{LineError}
 use Rattle.runner_parts.specs.declared.error.PartError.TheVariants.{OutOfMemory}
-use Rattle.runner_parts.specs.Lines.{lines_of, is_blank, AreLinesOf, IsFirstRefused}
+use Rattle.walk_summary.specs.Summaries.{cut, greatest_count}
 
 -- one line
 

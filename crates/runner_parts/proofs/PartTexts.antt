@@ -1,17 +1,12 @@
 -- The JSON of a part has no number that is not whole, and is shallow.
 use Rattle.std.proofs.Common.{◌≡◌, ◌≤◌, ℕ, ℤ, refl, arith, false, List, [], ◌∷◌, map, Option, Some, None, Result, Ok, Err, IfOk}
-use Rattle.runner_report.specs.declared.report.Cause.{Cause}
-use Rattle.runner_report.specs.declared.report.Cause.TheVariants.{Limit, Stopped}
-use Rattle.semantics.specs.View.{View}
-use Rattle.semantics.specs.declared.view.Kind.{Kind}
+use Rattle.runner_report.specs.ReportText.{bound_data, cause_data, first_bad_data, end_data}
+use Rattle.runner_report.specs.declared.report.Cause.{Cause, TheVariants.{Limit, Stopped}}
+use Rattle.runner_report.proofs.ReportTexts.{bound_whole, cause_whole, first_bad_whole, ends_whole}
+use Rattle.semantics.specs.{View.View, declared.view.Kind.Kind}
 use Rattle.semantics.specs.declared.view.Kind.TheVariants.{Done, Failed, Stuck}
 use Rattle.serde_json.specs.Data.{number, depth, items_depth}
-use Rattle.serde_json.specs.Find.{of_integer}
-use Rattle.serde_json.specs.Read.{max_depth}
-use Rattle.serde_json.specs.View.{items_of}
-use Rattle.serde_json.specs.Written.{has_float}
-use Rattle.runner_report.specs.ReportText.{bound_data, cause_data, first_bad_data, end_data}
-use Rattle.runner_report.proofs.ReportTexts.{bound_whole, cause_whole, first_bad_whole, ends_whole}
+use Rattle.serde_json.specs.{Find.of_integer, Read.max_depth, View.items_of, Written.has_float}
 use Rattle.runner_parts.specs.PartText.{PartView, part_data}
 
 -- ---- whole numbers

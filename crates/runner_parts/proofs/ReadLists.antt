@@ -1,11 +1,8 @@
 -- Lists in JSON, read item by item.
 use Rattle.std.proofs.Common.{◌≡◌, ◌∙◌, refl, sym, ap, arith, ℕ, ℤ, pos, negsuc, ◌<◌, List, [], ◌∷◌, length, map, get_or, FitsSigned, Some, option_and_then}
-use Rattle.std.proofs.lemmas.List.{get_or-map, length-map}
-use Rattle.std.specs.Int.{w64}
-use Rattle.serde_json.specs.Data.{Data, number}
-use Rattle.serde_json.specs.Find.{of_integer, as_number, as_i64}
-use Rattle.serde_json.specs.View.{view, items_of}
-use Rattle.serde_json.specs.declared.value.Value.{Value}
+use Rattle.std.{specs.Int.w64, proofs.lemmas.List.{get_or-map, length-map}}
+use Rattle.serde_json.specs.{Data.{Data, number}, Find.{of_integer, as_number, as_i64}}
+use Rattle.serde_json.specs.{View.{view, items_of}, declared.value.Value.Value}
 
 pub items_same : (ds es : List Data) → items_of ds ≡ items_of es → ds ≡ es
 items_same [] [] e = refl

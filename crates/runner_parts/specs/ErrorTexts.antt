@@ -1,10 +1,9 @@
 -- What the user is told of a line that is no part's.
 use Rattle.std.specs.Prelude.{ℕ, List, ◌++◌, codes}
 use Rattle.std.specs.Fmt.{decimal}
-use Rattle.runner_parts.specs.declared.part.TheConstants.{VERSION}
-use Rattle.runner_parts.specs.declared.error.LineError.{LineError}
-use Rattle.runner_parts.specs.declared.error.PartError.{PartError}
+use Rattle.runner_parts.specs.declared.error.{LineError.LineError, PartError.PartError}
 use Rattle.runner_parts.specs.declared.error.PartError.TheVariants.{NotJson, OtherVersion, Missing, Wrong, Inconsistent, NotPrinted, OutOfMemory}
+use Rattle.runner_parts.specs.declared.part.TheConstants.{VERSION}
 
 -- the key, and what is wrong with it
 abbrev pub part_error_text : PartError → List ℕ

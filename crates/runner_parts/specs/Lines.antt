@@ -1,11 +1,10 @@
 -- The lines of parts.
 use Rattle.std.specs.Prelude.{◌≡◌, ◌≢◌, ◌==◌, ◌+◌, ℕ, Bool, not, List, ◌∷◌, ◌++◌, length, filter}
-use Rattle.std.specs.Char.{is_ascii_whitespace}
-use Rattle.std.specs.List.{AllZip, list_all, slice_split}
+use Rattle.std.specs.{Char.is_ascii_whitespace, List.{AllZip, list_all, slice_split}}
 use Rattle.walk_summary.specs.Summaries.{cut}
+use Rattle.runner_parts.specs.PartText.{PartView, IsPart, IsLineOf}
 use Rattle.runner_parts.specs.declared.error.LineError.{LineError}
 use Rattle.runner_parts.specs.declared.error.PartError.TheVariants.{OutOfMemory}
-use Rattle.runner_parts.specs.PartText.{PartView, IsPart, IsLineOf}
 
 -- the lines of a text: it is cut at its line feeds
 abbrev pub lines_of : List ℕ → List (List ℕ)

@@ -1,19 +1,15 @@
 -- The line of a part: JSON of one object.
 use Rattle.std.specs.Prelude.{◌≡◌, ◌<◌, ◌≤◌, ◌^◌, ℕ, FitsSigned, List, All, length, Option, Some, None, IfSome, codes, IsUtf8}
 use Rattle.std.specs.Int.{w64}
-use Rattle.replay.specs.declared.piece.TheConstants.{NUMBERS}
-use Rattle.replay.specs.declared.schedule.TheConstants.{PLACES}
+use Rattle.replay.specs.declared.{piece.TheConstants.NUMBERS, schedule.TheConstants.PLACES}
 use Rattle.walk_summary.specs.Summaries.{IsSummary}
-use Rattle.runner_report.specs.declared.report.Cause.{Cause}
-use Rattle.runner_report.specs.declared.level.Level.{Level}
 use Rattle.runner_report.specs.ReportText.{cause_data, bound_data, count_data, ends_data, schedule_data, first_bad_data}
+use Rattle.runner_report.specs.declared.{level.Level.Level, report.Cause.Cause}
 use Rattle.serde_json.specs.Data.{Data, boolean, string, object, Members, no_members, member}
-use Rattle.serde_json.specs.Read.{read}
-use Rattle.serde_json.specs.Written.{compact_text}
+use Rattle.serde_json.specs.{Read.read, Written.compact_text}
 use Rattle.hex.specs.Hex.{encode_lower, IsBytes}
 use Rattle.sha2.specs.Sha256.{sha256}
-use Rattle.runner_parts.specs.declared.guest.GuestDigest.{GuestDigest}
-use Rattle.runner_parts.specs.declared.part.Part.{Part}
+use Rattle.runner_parts.specs.declared.{guest.GuestDigest.GuestDigest, part.Part.Part}
 use Rattle.runner_parts.specs.declared.part.TheConstants.{VERSION}
 
 -- the guest of a text

@@ -2,21 +2,15 @@
 
 ghost use Rattle.std.specs.Prelude.{◌≡◌, ◌≤◌, ◌<◌, ◌^◌, ℕ, ℤ, FitsSigned, Bool, List, Option, All, Some, MatchResult, IfSome, IfOk, IfErr, OnOk, IsUtf8, option_map};
 ghost use Rattle.std.specs.Int.{w64};
-ghost use Rattle.semantics.specs.View.{View};
-ghost use Rattle.runner_report.specs.declared.report.Cause.{Cause};
-ghost use Rattle.runner_report.specs.declared.level.Level.{Level};
-ghost use Rattle.runner_report.specs.ReportText.{kind_data, cause_data, count_data, bound_data, values_data, end_data};
-ghost use Rattle.runner_report.specs.ReportText.{ends_data, schedule_data, first_bad_data};
-ghost use Rattle.semantics.specs.declared.view.Kind.{Kind};
+ghost use Rattle.semantics.specs.{View.View, declared.view.Kind.Kind};
+ghost use Rattle.runner_report.specs.ReportText.{kind_data, cause_data, count_data, bound_data, values_data, end_data, ends_data, schedule_data, first_bad_data};
+ghost use Rattle.runner_report.specs.declared.{level.Level.Level, report.Cause.Cause};
 ghost use Rattle.walk_summary.specs.Summaries.{schedule_view};
-ghost use Rattle.serde_json.specs.Data.{Data, boolean, depth};
-ghost use Rattle.serde_json.specs.Find.{get};
-ghost use Rattle.serde_json.specs.Read.{read, max_depth};
+ghost use Rattle.serde_json.specs.{Data.{Data, boolean, depth}, Find.get, Read.{read, max_depth}};
 ghost use Rattle.serde_json.specs.View.{view};
 ghost use Rattle.runner_parts.specs.PartText.{PartView, IsPart, IsLevel, IsGuest, IsSchedule, IsLineOf, guest_data, part_data, part_view};
 ghost use Rattle.runner_parts.specs.declared.error.PartError.TheVariants.{OutOfMemory};
-ghost use Rattle.runner_parts.specs.declared.guest.GuestDigest.{GuestDigest};
-ghost use Rattle.runner_parts.specs.inner.Keys.{HasLevel};
+ghost use Rattle.runner_parts.specs.{declared.guest.GuestDigest.GuestDigest, inner.Keys.HasLevel};
 
 use crate::error::PartError;
 use crate::guest::GuestDigest;

@@ -1,16 +1,14 @@
 -- A text that spells a schedule is ASCII, so it is UTF-8.
-use Rattle.std.proofs.Common.{◌≡◌, inl, inr, sym, subst, refl, arith}
-use Rattle.std.proofs.Common.{ℕ, ◌<◌, ◌==◌, Bool, true, false, cond, List, [], ◌∷◌, ◌++◌, codes}
-use Rattle.std.specs.Fmt.{decimal}
-use Rattle.std.specs.List.{AllZip, slice_split, join_with_byte}
+use Rattle.std.proofs.Common.{◌≡◌, inl, inr, sym, subst, refl, arith, ℕ, ◌<◌, ◌==◌, Bool, true}
+use Rattle.std.proofs.Common.{false, cond, List, [], ◌∷◌, ◌++◌, codes}
+use Rattle.std.specs.{Fmt.decimal, List.{AllZip, slice_split, join_with_byte}}
 use Rattle.std.specs.Str.{IsUtf8, is_utf8, chars, bytes_eq}
-use lib.Utf8.{encode}
 use Rattle.std.proofs.lemmas.Fmt.{IsAscii-decimal, IsAscii-from_digits}
-use Rattle.std.proofs.lemmas.List.Splits.{join_with_byte-slice_split}
-use Rattle.std.proofs.lemmas.Slice.Eq.{bytes_eq-Decides}
+use Rattle.std.proofs.lemmas.{List.Splits.join_with_byte-slice_split, Slice.Eq.bytes_eq-Decides}
 use Rattle.std.proofs.lemmas.Str.{IsUtf8-append, IsUtf8-nil, IsUtf8-from_ascii, IsUtf8-from_is_utf8}
-use Rattle.replay.specs.declared.piece.Piece.{Piece}
+use lib.Utf8.{encode}
 use Rattle.replay.specs.Spelling.{SpellsNumber, SpellsCount, SpellsPiece, Spells}
+use Rattle.replay.specs.declared.piece.Piece.{Piece}
 
 x_utf8 : IsUtf8 (codes "x")
 unfolding is_utf8 chars encode

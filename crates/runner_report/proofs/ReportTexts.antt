@@ -1,25 +1,17 @@
 -- A report has no number that is not whole.
-use Rattle.std.proofs.Common.{◌≡◌, refl, ℕ, ℤ, pos, negsuc, Bool, true, false, ◌||◌}
-use Rattle.std.proofs.Common.{List, [], ◌∷◌, map, Option, Some, None}
-use Rattle.std.specs.declared.cmp.Ordering.{Ordering}
-use Rattle.std.specs.declared.cmp.Ordering.TheVariants.{Less, Equal, Greater}
-use Rattle.std.specs.Ordering.{nat_cmp, match_ordering}
-use Rattle.std.specs.Cmp.Lexicographic.{slice_cmp}
-use Rattle.semantics.specs.declared.view.Kind.{Kind}
+use Rattle.std.proofs.Common.{◌≡◌, refl, ℕ, ℤ, pos, negsuc, Bool, true, false, ◌||◌, List, [], ◌∷◌}
+use Rattle.std.proofs.Common.{map, Option, Some, None}
+use Rattle.std.specs.{Cmp.Lexicographic.slice_cmp, Ordering.{nat_cmp, match_ordering}}
+use Rattle.std.specs.declared.cmp.Ordering.{Ordering, TheVariants.{Less, Equal, Greater}}
+use Rattle.semantics.specs.{View.View, declared.view.Kind.Kind}
 use Rattle.semantics.specs.declared.view.Kind.TheVariants.{Done, Failed, Stuck}
-use Rattle.semantics.specs.View.{View}
-use Rattle.serde_json.specs.Data.{Data, number, Members, no_members, member, put}
-use Rattle.serde_json.specs.Find.{of_integer}
+use Rattle.serde_json.specs.{Data.{Data, number, Members, no_members, member, put}, Find.of_integer}
 use Rattle.serde_json.specs.View.{items_of}
 use Rattle.serde_json.specs.Written.{has_float, items_have_float, members_have_float}
-use Rattle.runner_report.specs.declared.report.Cause.{Cause}
-use Rattle.runner_report.specs.declared.report.Cause.TheVariants.{Limit, Stopped}
-use Rattle.runner_report.specs.declared.report.Verdict.{Verdict}
+use Rattle.runner_report.specs.ReportText.{kind_data, cause_data, bound_data, values_data, end_data, first_bad_data, Member, with_members, common_members, quick_members, verdict_members, report_data}
+use Rattle.runner_report.specs.declared.report.Cause.{Cause, TheVariants.{Limit, Stopped}}
+use Rattle.runner_report.specs.declared.report.{Report.Report, Verdict.Verdict}
 use Rattle.runner_report.specs.declared.report.Verdict.TheVariants.{Clean, Bad, Incomplete}
-use Rattle.runner_report.specs.declared.report.Report.{Report}
-use Rattle.runner_report.specs.ReportText.{kind_data, cause_data, bound_data, values_data, end_data}
-use Rattle.runner_report.specs.ReportText.{first_bad_data, Member, with_members}
-use Rattle.runner_report.specs.ReportText.{common_members, quick_members, verdict_members, report_data}
 
 -- the one or the other, where neither
 neither : (a b : Bool) → a ≡ false → b ≡ false → (a || b) ≡ false

@@ -4,14 +4,11 @@ use Rattle.guest_code.specs.Program.{Program}
 use Rattle.walk_items.specs.declared.limits.TheConstants.{BOUND}
 use Rattle.walk_items.specs.declared.mode.Mode.TheVariants.{Bounded, Reduced}
 use Rattle.walk_summary.specs.Summaries.{SummaryView}
-use Rattle.runner_report.specs.declared.options.Options.{Options}
-use Rattle.runner_report.specs.declared.options.Search.{Search}
-use Rattle.runner_report.specs.declared.options.Search.TheVariants.{UpTo, Unbounded}
-use Rattle.runner_report.specs.declared.report.Report.{Report}
-use Rattle.runner_report.specs.declared.report.Verdict.{Verdict}
-use Rattle.runner_report.specs.declared.report.Verdict.TheVariants.{Clean, Bad, Incomplete}
 use Rattle.runner_report.specs.Reports.{IsBad, IsClean, IsCutShort, IsFinished}
-use Rattle.runner_report.specs.Unbounded.{IsFirstBad, HasNoBad}
+use Rattle.runner_report.specs.{Unbounded.{IsFirstBad, HasNoBad}, declared.options.Options.Options}
+use Rattle.runner_report.specs.declared.options.Search.{Search, TheVariants.{UpTo, Unbounded}}
+use Rattle.runner_report.specs.declared.report.{Report.Report, Verdict.Verdict}
+use Rattle.runner_report.specs.declared.report.Verdict.TheVariants.{Clean, Bad, Incomplete}
 
 -- the bound that a search is asked for, if any, is one that there is
 abbrev pub IsSearch : Search → Type 0

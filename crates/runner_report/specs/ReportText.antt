@@ -1,19 +1,14 @@
 -- The text of a report: compact JSON of one object, its keys in the order of their bytes.
 use Rattle.std.specs.Prelude.{ℕ, ℤ, Bool, true, false, List, [], ◌∷◌, map, Option, Some, None, codes}
-use Rattle.semantics.specs.declared.view.Kind.{Kind}
+use Rattle.semantics.specs.{View.View, declared.view.Kind.Kind}
 use Rattle.semantics.specs.declared.view.Kind.TheVariants.{Done, Failed, Stuck}
-use Rattle.semantics.specs.View.{View}
 use Rattle.replay.specs.Spelling.{printed}
 use Rattle.serde_json.specs.Data.{Data, null, boolean, number, unsigned, string, array, object}
 use Rattle.serde_json.specs.Data.{Members, no_members, member, put}
-use Rattle.serde_json.specs.Find.{of_integer}
-use Rattle.serde_json.specs.View.{items_of}
-use Rattle.serde_json.specs.Written.{compact_text}
-use Rattle.runner_report.specs.declared.report.Cause.{Cause}
-use Rattle.runner_report.specs.declared.report.Cause.TheVariants.{Limit, Stopped}
-use Rattle.runner_report.specs.declared.report.Verdict.{Verdict}
+use Rattle.serde_json.specs.{Find.of_integer, View.items_of, Written.compact_text}
+use Rattle.runner_report.specs.declared.report.Cause.{Cause, TheVariants.{Limit, Stopped}}
+use Rattle.runner_report.specs.declared.report.{Report.Report, Verdict.Verdict}
 use Rattle.runner_report.specs.declared.report.Verdict.TheVariants.{Clean, Bad, Incomplete}
-use Rattle.runner_report.specs.declared.report.Report.{Report}
 
 -- ---- values
 

@@ -1,21 +1,16 @@
 -- What the report of a search up to a bound promises, in terms of all complete schedules of its
 -- program.
-use Rattle.std.specs.Prelude.{◌≡◌, ◌↔◌, ◌⊎◌, ℕ, ◌<◌, ◌≤◌, ◌+◌, Bool, true, false}
-use Rattle.std.specs.Prelude.{List, [], Option, Some, None, Contains}
+use Rattle.std.specs.Prelude.{◌≡◌, ◌↔◌, ◌⊎◌, ℕ, ◌<◌, ◌≤◌, ◌+◌, Bool, true, false, List, [], Option}
+use Rattle.std.specs.Prelude.{Some, None, Contains}
 use Rattle.guest_code.specs.Program.{Program}
-use Rattle.semantics.specs.declared.view.Kind.{Kind}
-use Rattle.semantics.specs.Machine.{start}
-use Rattle.semantics_schedules.specs.Schedules.{complete_schedules, preemptions}
+use Rattle.semantics.specs.{Machine.start, declared.view.Kind.Kind}
 use Rattle.semantics_schedules.specs.Order.{precedes, ends_badly}
-use Rattle.walk_items.specs.declared.mode.Mode.{Mode}
-use Rattle.walk_items.specs.declared.mode.Mode.TheVariants.{Bounded, Reduced}
+use Rattle.semantics_schedules.specs.Schedules.{complete_schedules, preemptions}
+use Rattle.walk_items.specs.{Items.{ItemView, root_of, whole}, Walks.IsSplit}
+use Rattle.walk_items.specs.declared.mode.Mode.{Mode, TheVariants.{Bounded, Reduced}}
 use Rattle.walk_summary.specs.Summaries.{SummaryView, IsBoundedBy, end_kind}
-use Rattle.walk_items.specs.Items.{ItemView, root_of, whole}
-use Rattle.walk_items.specs.Walks.{IsSplit}
-use Rattle.runner_report.specs.declared.options.Search.{Search}
-use Rattle.runner_report.specs.declared.options.Search.TheVariants.{UpTo, Unbounded}
-use Rattle.runner_report.specs.declared.report.Cause.{Cause}
-use Rattle.runner_report.specs.declared.report.Cause.TheVariants.{Limit, Stopped}
+use Rattle.runner_report.specs.declared.options.Search.{Search, TheVariants.{UpTo, Unbounded}}
+use Rattle.runner_report.specs.declared.report.Cause.{Cause, TheVariants.{Limit, Stopped}}
 
 -- a complete schedule of the program, which fails or gets stuck
 abbrev pub IsBadSchedule : Program → List ℕ → Type 0

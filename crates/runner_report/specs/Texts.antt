@@ -1,19 +1,13 @@
 -- What a search of a text answers.
 use Rattle.std.specs.Prelude.{◌≡◌, ℕ, List, Bool, Some, None, Result, MatchResult}
-use Rattle.guest_syntax.specs.declared.error.SyntaxError.{SyntaxError}
+use Rattle.guest_syntax.specs.{Grammar.Spells, Tree.Tree, declared.error.SyntaxError.SyntaxError}
 use Rattle.guest_syntax.specs.declared.error.SyntaxError.TheVariants as syntax
-use Rattle.guest_syntax.specs.Tree.{Tree}
-use Rattle.guest_syntax.specs.Grammar.{Spells}
+use Rattle.guest_code.specs.{Code.code, Fault.fault, Program.Program}
 use Rattle.guest_code.specs.declared.error.CheckError.{CheckError}
 use Rattle.guest_code.specs.declared.error.CheckError.TheVariants as check
-use Rattle.guest_code.specs.Fault.{fault}
-use Rattle.guest_code.specs.Code.{code}
-use Rattle.guest_code.specs.Program.{Program}
-use Rattle.runner_report.specs.declared.error.ExploreError.{ExploreError}
+use Rattle.runner_report.specs.{Promises.IsReport, declared.error.ExploreError.ExploreError}
 use Rattle.runner_report.specs.declared.error.ExploreError.TheVariants.{Syntax, Check, OutOfMemory}
-use Rattle.runner_report.specs.declared.options.Options.{Options}
-use Rattle.runner_report.specs.declared.report.Report.{Report}
-use Rattle.runner_report.specs.Promises.{IsReport}
+use Rattle.runner_report.specs.declared.{options.Options.Options, report.Report.Report}
 
 -- the text spells a tree without a fault, and this is its program
 pub record IsProgramOf (text : List ℕ) (p : Program) : Type 0 where

@@ -2,13 +2,11 @@
 -- program. That the bad schedule is the first, and the end views, say nothing of sleep sets.
 use Rattle.std.specs.Prelude.{◌≡◌, ℕ, Bool, true, false, List, map}
 use Rattle.guest_code.specs.Program.{Program}
-use Rattle.semantics.specs.declared.view.Kind.{Kind}
-use Rattle.semantics.specs.Machine.{start}
-use Rattle.semantics_schedules.specs.Schedules.{complete_schedules, preemptions}
+use Rattle.semantics.specs.{Machine.start, declared.view.Kind.Kind}
 use Rattle.semantics_schedules.specs.Order.{precedes, end_of}
-use Rattle.walk_items.specs.declared.mode.Mode.TheVariants.{Reduced}
+use Rattle.semantics_schedules.specs.Schedules.{complete_schedules, preemptions}
+use Rattle.walk_items.specs.{Items.whole, declared.mode.Mode.TheVariants.Reduced}
 use Rattle.walk_summary.specs.Summaries.{SummaryView, IsBoundedBy, end_kind, sorted_views}
-use Rattle.walk_items.specs.Items.{whole}
 use Rattle.runner_report.specs.Reports.{IsBadSchedule}
 
 -- the end views are those of all complete schedules; the summary is of what sleep sets leave

@@ -1,12 +1,11 @@
 -- What a worker keeps of a round, and what it settles.
-use Rattle.std.proofs.Common.{◌≡◌, ℕ, Bool, true, false, List, [], ◌∷◌, flat_map}
-use Rattle.std.proofs.Common.{refl, sym, subst, Result, Ok, Err}
+use Rattle.std.proofs.Common.{◌≡◌, ℕ, Bool, true, false, List, [], ◌∷◌, flat_map, refl, sym, subst}
+use Rattle.std.proofs.Common.{Result, Ok, Err}
 use Rattle.std.specs.declared.alloc.AllocError.{AllocError}
 use Rattle.guest_code.specs.Program.{Program}
-use Rattle.walk_items.specs.Items.{ItemView}
+use Rattle.walk_items.specs.{Items.ItemView, Walks.{WalkView, items_at, listed_if}}
 use Rattle.walk_items.specs.declared.mode.Mode.{Mode}
 use Rattle.walk.specs.declared.found.Found.{Found}
-use Rattle.walk_items.specs.Walks.{WalkView, items_at, listed_if}
 use Rattle.book.specs.Books.{BookView, AreWalksAt, HaveFound, HaveSettled}
 use Rattle.runner_workers.specs.Teams.{IsOf}
 

@@ -1,12 +1,9 @@
 -- What the walks of a loan's items find, one after another.
-use Rattle.std.proofs.Common.{◌≡◌, ℕ, ◌+◌, ◌-◌, ◌*◌, ◌^◌, ◌<◌, ◌≤◌, false, List, [], Some, length, slice_get}
-use Rattle.std.proofs.Common.{ap, sym, subst, arith}
+use Rattle.std.proofs.Common.{◌≡◌, ℕ, ◌+◌, ◌-◌, ◌*◌, ◌^◌, ◌<◌, ◌≤◌, false, List, [], Some, length, slice_get, ap, sym, subst, arith}
 use Rattle.guest_code.specs.Program.{Program}
 use Rattle.walk_summary.specs.Summaries.{SummaryView, nothing}
-use Rattle.walk_items.specs.Items.{ItemView}
-use Rattle.walk_items.specs.declared.mode.Mode.{Mode}
-use Rattle.walk.specs.declared.found.Found.{Found}
-use Rattle.walk.specs.Founds.{HasAdded}
+use Rattle.walk_items.specs.{Items.ItemView, declared.mode.Mode.Mode}
+use Rattle.walk.specs.{Founds.HasAdded, declared.found.Found.Found}
 use Rattle.book.specs.Books.{BookView, opening}
 use Rattle.book.proofs.Rounds.{IsFoundFrom, round_begins, round_goes_on, added_tried}
 

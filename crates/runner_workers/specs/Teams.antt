@@ -1,11 +1,9 @@
 -- What a team of workers keeps from one stretch of rounds to the next.
 use Rattle.std.specs.Prelude.{◌≡◌, ◌≤◌, ◌<◌, Bool, All, vec_len}
 use Rattle.guest_code.specs.Program.{Program}
-use Rattle.walk_items.specs.declared.mode.Mode.{Mode}
-use Rattle.walk_items.specs.Items.{ItemView}
+use Rattle.walk_items.specs.{Items.ItemView, declared.mode.Mode.Mode}
 use Rattle.book.specs.Books.{BookView}
-use Rattle.runner_workers.specs.declared.limits.TheConstants.{WORKERS}
-use Rattle.runner_workers.specs.declared.team.Team.{Team}
+use Rattle.runner_workers.specs.declared.{limits.TheConstants.WORKERS, team.Team.Team}
 
 -- the book is of this item and mode, a quick one or not, and lists what its bound puts off or not
 pub record IsOf (b : BookView) (i : ItemView) (m : Mode) (q l : Bool) : Type 0 where

@@ -2,10 +2,9 @@
 
 ghost use Rattle.std.specs.Prelude.{◌≡◌, ◌-◌, ◌⊎◌, ◌↔◌, [], OnOk, OnErr, IsTrue, length, drop};
 ghost use Rattle.walk_items.specs.Items.{AreOf};
-ghost use Rattle.book.specs.declared.limits.TheConstants.{ROUND};
 ghost use Rattle.book.specs.Books.{HaveFound, HaveSettled, AreNotTaken, thinned};
-ghost use Rattle.runner_workers.specs.Teams.{IsOf};
-ghost use Rattle.runner_workers.specs.declared.round.Round.{Round};
+ghost use Rattle.book.specs.declared.limits.TheConstants.{ROUND};
+ghost use Rattle.runner_workers.specs.{Teams.IsOf, declared.round.Round.Round};
 ghost use Rattle.runner_workers.specs.inner.Rounds.{IsRoundOf, AreKept, GoesOn};
 
 use crate::round::Round;

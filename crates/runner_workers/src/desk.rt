@@ -1,12 +1,10 @@
 //! What workers that share rounds have under a lock.
 
 ghost use Rattle.std.specs.Prelude.{◌≡◌, ◌≤◌, ◌-◌, ◌||◌, ◌↔◌, true, false, if◌then◌else◌, vec_len, IfSome, OnOk, OnErr, IsTrue};
-ghost use Rattle.std.specs.Option.{ForSome};
-ghost use Rattle.std.specs.Arc.{arc_value};
+ghost use Rattle.std.specs.{Arc.arc_value, Option.ForSome};
 ghost use Rattle.walk_items.specs.Items.{AreOf};
 ghost use Rattle.book.specs.Books.{thinned};
-ghost use Rattle.runner_workers.specs.Teams.{IsOf};
-ghost use Rattle.runner_workers.specs.declared.round.Round.{Round};
+ghost use Rattle.runner_workers.specs.{Teams.IsOf, declared.round.Round.Round};
 ghost use Rattle.runner_workers.specs.inner.Rounds.{IsRoundOf, Follows, GoesOn};
 
 use crate::branded::{BrandedBook, SearchBrand};

@@ -1,12 +1,9 @@
 //! What workers with rounds of their own have under a lock.
 
 ghost use Rattle.std.specs.Prelude.{◌≡◌, ◌≤◌, ◌⊎◌, ◌↔◌, ◌<◌, true, false, IfOk, IfNone, IsTrue, length};
-ghost use Rattle.book.specs.declared.limits.TheConstants.{ROUND};
-ghost use Rattle.book.specs.ItemLists.{all_of};
-ghost use Rattle.book.specs.Books.{HaveFound, HaveSettled, places_from};
-ghost use Rattle.book.specs.Lending.{as_book, IsLoanOf};
-ghost use Rattle.runner_workers.specs.Teams.{IsOf};
-ghost use Rattle.runner_workers.specs.declared.lender.Task.TheVariants.{Walk, Quit};
+ghost use Rattle.book.specs.{Books.{HaveFound, HaveSettled, places_from}, ItemLists.all_of};
+ghost use Rattle.book.specs.{Lending.{as_book, IsLoanOf}, declared.limits.TheConstants.ROUND};
+ghost use Rattle.runner_workers.specs.{Teams.IsOf, declared.lender.Task.TheVariants.{Walk, Quit}};
 ghost use Rattle.runner_workers.specs.inner.Loans.{IsLent, MayLend};
 
 use crate::branded::SearchBrand;

@@ -1,13 +1,10 @@
 //! A stretch of rounds that workers don't share: each round is one worker's own.
 
 ghost use Rattle.std.specs.Prelude.{◌≡◌, ◌≤◌, false, IfOk, OnOk, length, vec_len};
-ghost use Rattle.std.specs.Arc.{arc_value};
-ghost use Rattle.std.specs.List.{All};
+ghost use Rattle.std.specs.{Arc.arc_value, List.All};
 ghost use Rattle.walk_items.specs.Items.{AreOf};
-ghost use Rattle.book.specs.ItemLists.{all_of};
-ghost use Rattle.book.specs.Books.{HaveFound, places_from};
-ghost use Rattle.runner_workers.specs.declared.lender.Task.TheVariants.{Walk};
-ghost use Rattle.runner_workers.specs.Teams.{IsOf, IsTeam};
+ghost use Rattle.book.specs.{Books.{HaveFound, places_from}, ItemLists.all_of};
+ghost use Rattle.runner_workers.specs.{Teams.{IsOf, IsTeam}, declared.lender.Task.TheVariants.Walk};
 ghost use Rattle.runner_workers.specs.inner.Loans.{IsLent};
 
 use crate::branded::SearchBrand;

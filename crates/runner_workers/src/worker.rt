@@ -2,8 +2,7 @@
 
 ghost use Rattle.std.specs.Prelude.{◌≡◌, ◌<◌, false, [], vec_len, IfOk, OnOk};
 ghost use Rattle.std.specs.Arc.{arc_value};
-ghost use Rattle.runner_workers.specs.declared.limits.TheConstants.{KEPT_WALKS};
-ghost use Rattle.runner_workers.specs.declared.round.Round.{Round};
+ghost use Rattle.runner_workers.specs.declared.{limits.TheConstants.KEPT_WALKS, round.Round.Round};
 ghost use Rattle.runner_workers.specs.inner.Rounds.{IsRoundOf, AreKept};
 
 use crate::limits::{KEPT_WALKS, PADDING_WORDS};

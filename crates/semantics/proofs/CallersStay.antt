@@ -1,13 +1,10 @@
 -- A thread that signals or broadcasts is not changed by those whom it wakes.
 use Rattle.std.proofs.Common.{arith, ◌≡◌, ◌<◌, ◌∙◌, ℕ, List, [], ◌++◌, length, take, drop, get_or, ap, sym, subst}
-use Rattle.std.proofs.lemmas.List.{get_or_read}
-use Rattle.std.proofs.Math.Seq.{take-append_seam}
+use Rattle.std.proofs.{Math.Seq.take-append_seam, lemmas.List.get_or_read}
 use Rattle.guest_code.specs.Program.{Program}
-use Rattle.semantics.specs.declared.state.Thread.{Thread}
-use Rattle.semantics.specs.declared.state.ConditionAction.{ConditionAction}
-use Rattle.semantics.specs.declared.state.Action.TheVariants.{OnCondition}
 use Rattle.semantics.specs.Machine.{Snapshot, thread_at, missing_thread, can_do, queue_of, woken, wake, threads_to_wake}
-use Rattle.semantics.specs.Reachable.{IsReady}
+use Rattle.semantics.specs.{Reachable.IsReady, declared.state.Action.TheVariants.OnCondition}
+use Rattle.semantics.specs.declared.state.{ConditionAction.ConditionAction, Thread.Thread}
 use Rattle.semantics.proofs.Waking.{thread_awake, wake-get, wake-length}
 
 -- the threads W, written over n threads I

@@ -1,16 +1,13 @@
 -- What the kind of a schedule's end says of its threads.
 use Rattle.std.proofs.Common.{◌≡◌, ◌≢◌, ◌↔◌, ◌<◌, ℕ, zero, suc, Bool, true, false, cond, ◌&&◌, List, [], ◌∷◌, length, get_or, refl, ap, ◌∙◌, sym, arith}
-use Rattle.std.specs.List.{list_any, list_all, Any}
-use Rattle.std.proofs.lemmas.Bool.{and_parts}
+use Rattle.std.{specs.List.{list_any, list_all, Any}, proofs.lemmas.Bool.and_parts}
 use Rattle.std.proofs.lemmas.List.Elements.{All-contains}
 use Rattle.std.proofs.lemmas.List.Folds.{Any-from_list_any, list_any-from_Any}
-use Rattle.semantics.specs.declared.view.Kind.TheVariants.{Done, Failed, Stuck}
-use Rattle.semantics.specs.declared.state.Status.{Status}
-use Rattle.semantics.specs.declared.state.Stop.{Stop}
-use Rattle.semantics.specs.declared.state.Status.TheVariants.{Ended, Stopped}
-use Rattle.semantics.specs.declared.state.Thread.{Thread}
 use Rattle.semantics.specs.Ends.{is_stopped, is_ended, final_kind}
 use Rattle.semantics.specs.FinalKinds.{SomeStopped, SomeUnended, AllEnded}
+use Rattle.semantics.specs.declared.state.Status.{Status, TheVariants.{Ended, Stopped}}
+use Rattle.semantics.specs.declared.state.{Stop.Stop, Thread.Thread}
+use Rattle.semantics.specs.declared.view.Kind.TheVariants.{Done, Failed, Stuck}
 
 -- one thread's status
 

@@ -1,22 +1,14 @@
 -- Members of a mask members_from a number on.
 use Rattle.std.proofs.Common.{◌≡◌, ◌≢◌, ℕ, ℤ, zero, suc, ◌+◌, ◌-◌, ◌<◌, ◌≤◌, Bool, true, false, cond, not, ◌&&◌, ◌||◌, min, max, List, [], ◌∷◌, length, Option, Some, None, refl, ap, ◌∙◌, sym, arith, inl, inr, pow-suc, ◌/◌, ◌^◌, ◌*◌, ◌%◌, nat_eq}
-use Rattle.std.specs.List.{filter}
-use Rattle.std.specs.Int.{bit_at, bit_not, w16, trailing_zeros}
-use Rattle.std.specs.Int.Bits.{bit_and, bit_or}
-use Rattle.guest_code.specs.declared.limits.TheConstants.{THREADS}
-use Rattle.std.proofs.Math.Nat.{div-div-eq-div-mul, div-le_self}
-use Rattle.std.proofs.lemmas.Nat.{pow-add}
+use Rattle.std.specs.Int.{bit_at, bit_not, w16, trailing_zeros, Bits.{bit_and, bit_or}}
+use Rattle.std.{specs.List.filter, proofs.Math.Nat.{div-div-eq-div-mul, div-le_self}}
+use Rattle.std.proofs.lemmas.{Bool.cases_lt, Nat.pow-add}
 use Rattle.std.proofs.lemmas.Nat.Bits.{bit_at_above, bit_at-zero, bit_at-trailing_zeros, bit_at_not, bit_at_and, bit_at_or, bit_at-lt, bit_at_cat_low, bit_at_cat_high, same_from_bits_below}
-use Rattle.std.proofs.lemmas.Bool.{cases_lt}
-use Rattle.guest_code.specs.Program.{Program}
-use Rattle.semantics.specs.declared.mask.Mask.{Mask}
-use Rattle.semantics.specs.declared.state.Action.{Action}
-use Rattle.semantics.specs.declared.state.Thread.{Thread}
-use Rattle.semantics.specs.declared.state.Action.TheVariants.{OnVariable}
-use Rattle.semantics.specs.Machine.{Snapshot, is_enabled, can_do}
+use Rattle.guest_code.specs.{Program.Program, declared.limits.TheConstants.THREADS}
+use Rattle.semantics.specs.{Ends.enabled, Machine.{Snapshot, is_enabled, can_do}}
 use Rattle.semantics.specs.Mask.{has, no_threads, members_from, bits_of, mask_of, one_if}
-use Rattle.semantics.specs.Work.{up_from}
-use Rattle.semantics.specs.Ends.{enabled}
+use Rattle.semantics.specs.{Work.up_from, declared.mask.Mask.Mask, declared.state.Action.Action}
+use Rattle.semantics.specs.declared.state.{Action.TheVariants.OnVariable, Thread.Thread}
 
 members_one : (m : Mask) (n k : ℕ) → k ≡ 16 - (n + 1) → n < 16
     → members_from m n ≡ cond (has m n) (n ∷ filter (has m) (up_from (n + 1) k))

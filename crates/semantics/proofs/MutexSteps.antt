@@ -1,21 +1,16 @@
 -- What steps do with mutexes, and what the threads that are over keep.
 use Rattle.std.proofs.Common.{◌≡◌, ◌≢◌, ◌↔◌, ◌<◌, inl, inr, ℕ, Bool, true, false, cond, nat_eq, List, [], ◌∷◌, ◌++◌, length, Option, Some, None, slice_get, get_or, refl, ap, ◌∙◌, sym, arith, get_or-set_same, get_or-set_other}
-use Rattle.std.proofs.lemmas.List.{get_or_past}
-use Rattle.std.proofs.lemmas.Bool.{cases_lt}
-use Rattle.std.proofs.lemmas.Bool.Decides.{nat_tests}
-use Rattle.guest_code.specs.declared.program.Instruction.{Instruction}
-use Rattle.guest_code.specs.Program.{Program, code_of}
-use Rattle.semantics.specs.declared.state.Stop.TheVariants.{NotHeld}
-use Rattle.semantics.specs.declared.state.Status.TheVariants.{Waiting, Stopped}
-use Rattle.semantics.specs.declared.state.Thread.{Thread}
-use Rattle.semantics.specs.declared.state.MutexAction.{MutexAction}
-use Rattle.semantics.specs.declared.state.MutexAction.TheVariants.{Lock as Locks, Unlock as Unlocks, Retake as Retakes}
+use Rattle.std.proofs.lemmas.{Bool.cases_lt, Bool.Decides.nat_tests, List.get_or_past}
+use Rattle.guest_code.specs.{Program.{Program, code_of}, declared.program.Instruction.Instruction}
+use Rattle.semantics.specs.Effects.{IsAboutTo, RunsOn, StopsNotHeld, IsOver}
+use Rattle.semantics.specs.Machine.{Snapshot, acts, step, is_enabled, can_do, next_of, action_at, thread_at, missing_thread, owner_of, queue_of, with_status, resumed, is_free, owns, mutex_allows, given_back, owner_after, taker_after, waiter_after, woken, woken_status, wake}
 use Rattle.semantics.specs.declared.state.Action.{Action}
 use Rattle.semantics.specs.declared.state.Action.TheVariants.{OnVariable, OnMutex, Wait as Waits, OnCondition, OnSemaphore}
-use Rattle.semantics.specs.Machine.{Snapshot, acts, step, is_enabled, can_do, next_of, action_at, thread_at, missing_thread, owner_of, queue_of, with_status, resumed, is_free, owns, mutex_allows, given_back, owner_after, taker_after, waiter_after, woken, woken_status, wake}
-use Rattle.semantics.specs.Effects.{IsAboutTo, RunsOn, StopsNotHeld, IsOver}
-use Rattle.semantics.proofs.StepFrame.{set_unchanged, step_is, set_thread}
-use Rattle.semantics.proofs.Waking.{wake-get}
+use Rattle.semantics.specs.declared.state.MutexAction.{MutexAction}
+use Rattle.semantics.specs.declared.state.MutexAction.TheVariants.{Lock as Locks, Unlock as Unlocks, Retake as Retakes}
+use Rattle.semantics.specs.declared.state.Status.TheVariants.{Waiting, Stopped}
+use Rattle.semantics.specs.declared.state.{Stop.TheVariants.NotHeld, Thread.Thread}
+use Rattle.semantics.proofs.{StepFrame.{set_unchanged, step_is, set_thread}, Waking.wake-get}
 use Rattle.semantics.proofs.WorkFalls.{Moves, moves}
 
 -- owners

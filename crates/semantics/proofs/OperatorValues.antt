@@ -1,10 +1,7 @@
 -- What operators make of chosen values.
 use Rattle.std.proofs.Common.{◌≡◌, ◌≢◌, ◌⊎◌, inl, inr, zero, suc, ℤ, pos, Bool, true, false, not, List, [], ◌∷◌, refl, ap, arith}
-use Rattle.std.specs.List.{list_any, list_all, All, Any}
-use Rattle.std.specs.Int.{int_wrap}
-use Rattle.std.specs.Ordering.{int_eq}
-use Rattle.std.proofs.lemmas.Bool.{and_parts}
-use Rattle.std.proofs.lemmas.Bool.Decides.{Decides-int_eq}
+use Rattle.std.specs.{Int.int_wrap, List.{list_any, list_all, All, Any}, Ordering.int_eq}
+use Rattle.std.proofs.lemmas.Bool.{and_parts, Decides.Decides-int_eq}
 use Rattle.std.proofs.lemmas.List.Folds.{Any-from_list_any}
 use Rattle.guest_syntax.specs.declared.tree.Op.{Op}
 use Rattle.guest_syntax.specs.declared.tree.Op.TheVariants as ops

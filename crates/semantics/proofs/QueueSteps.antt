@@ -1,20 +1,17 @@
 -- What steps on conditions and semaphores do.
 use Rattle.std.proofs.Common.{◌≡◌, ◌≢◌, ◌↔◌, ◌+◌, ◌-◌, ◌<◌, ℕ, Bool, true, false, cond, nat_lt, List, [], ◌∷◌, length, inl, get_or, refl, ap, ◌∙◌, sym, subst, arith, get_or-set_same, get_or-set_other}
 use Rattle.std.proofs.lemmas.Bool.Decides.{nat_tests}
-use Rattle.guest_code.specs.declared.limits.TheConstants.{COUNT}
-use Rattle.guest_code.specs.Program.{Program, code_of}
-use Rattle.semantics.specs.declared.state.Stop.TheVariants.{SemFull}
-use Rattle.semantics.specs.declared.state.Status.TheVariants.{Woken, Stopped}
-use Rattle.semantics.specs.declared.state.Thread.{Thread}
+use Rattle.guest_code.specs.{Program.{Program, code_of}, declared.limits.TheConstants.COUNT}
+use Rattle.semantics.specs.Effects.{IsAboutTo, RunsOn, StopsFull}
+use Rattle.semantics.specs.Machine.{Snapshot, step, is_enabled, can_do, thread_at, queue_of, count_of, missing_thread, threads_to_wake, wake, queue_after, count_after, counter_after, is_full, resumed, with_status}
+use Rattle.semantics.specs.Waiters.{In, HasWaiters}
+use Rattle.semantics.specs.declared.state.Action.TheVariants.{OnCondition, OnSemaphore}
 use Rattle.semantics.specs.declared.state.ConditionAction.TheVariants.{Signal as Signals, Broadcast as Broadcasts}
 use Rattle.semantics.specs.declared.state.SemaphoreAction.{SemaphoreAction}
 use Rattle.semantics.specs.declared.state.SemaphoreAction.TheVariants.{Acquire as Acquires, Release as Releases}
-use Rattle.semantics.specs.declared.state.Action.TheVariants.{OnCondition, OnSemaphore}
-use Rattle.semantics.specs.Machine.{Snapshot, step, is_enabled, can_do, thread_at, queue_of, count_of, missing_thread, threads_to_wake, wake, queue_after, count_after, counter_after, is_full, resumed, with_status}
-use Rattle.semantics.specs.Effects.{IsAboutTo, RunsOn, StopsFull}
-use Rattle.semantics.specs.Waiters.{In, HasWaiters}
-use Rattle.semantics.proofs.QueuesHoldWaiters.{called_wake}
-use Rattle.semantics.proofs.StepFrame.{step_is, set_thread}
+use Rattle.semantics.specs.declared.state.Status.TheVariants.{Woken, Stopped}
+use Rattle.semantics.specs.declared.state.{Stop.TheVariants.SemFull, Thread.Thread}
+use Rattle.semantics.proofs.{QueuesHoldWaiters.called_wake, StepFrame.{step_is, set_thread}}
 
 -- conditions
 

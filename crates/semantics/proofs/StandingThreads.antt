@@ -1,12 +1,10 @@
 -- Where a thread is that is about to take a step.
 use Rattle.std.proofs.Common.{◌≡◌, ◌∙◌, ℕ, true, false, inl, inr, length, None, refl, ap}
-use Rattle.std.proofs.lemmas.Bool.{cases_lt}
-use Rattle.std.proofs.lemmas.Option.{slice_get_past}
+use Rattle.std.proofs.lemmas.{Bool.cases_lt, Option.slice_get_past}
 use Rattle.guest_code.specs.Program.{Program, code_of}
-use Rattle.semantics.specs.declared.state.Status.{Status}
-use Rattle.semantics.specs.declared.state.Status.TheVariants.{Running, Waiting, Woken, Ended, Stopped}
 use Rattle.semantics.specs.Machine.{Snapshot, can_do, action_at, is_enabled, thread_at}
-use Rattle.semantics.specs.Reachable.{StandsInCode}
+use Rattle.semantics.specs.{Reachable.StandsInCode, declared.state.Status.Status}
+use Rattle.semantics.specs.declared.state.Status.TheVariants.{Running, Waiting, Woken, Ended, Stopped}
 
 none_past : (status : Status) → action_at status None ≡ None
 none_past Running = refl

@@ -1,20 +1,18 @@
 -- What a step leaves of the objects that it doesn't write, and of other threads.
 use Rattle.std.proofs.Common.{◌≡◌, ◌≢◌, ◌<◌, ◌⊎◌, inl, inr, ℕ, pos, zero, suc, true, false, cond, nat_eq, List, [], ◌∷◌, length, Some, None, get_or, set, refl, ap, ◌∙◌, sym, subst, arith, get_or-set_same, get_or-set_other}
-use Rattle.std.proofs.lemmas.List.{set-get_or, get_or_past}
-use Rattle.std.proofs.lemmas.Bool.{cases_lt, cases_order}
+use Rattle.std.proofs.lemmas.{Bool.{cases_lt, cases_order}, List.{set-get_or, get_or_past}}
 use Rattle.guest_code.specs.Program.{Program}
-use Rattle.semantics.specs.declared.state.Status.{Status}
-use Rattle.semantics.specs.declared.state.Status.TheVariants.{Running, Waiting, Woken, Ended, Stopped}
-use Rattle.semantics.specs.declared.state.Thread.{Thread}
-use Rattle.semantics.specs.declared.state.VariableAction.{VariableAction}
-use Rattle.semantics.specs.declared.state.VariableAction.TheVariants.{Load as Loads, Store as Stores, Add as Adds, Cas as Swaps}
-use Rattle.semantics.specs.declared.state.Action.{Action}
-use Rattle.semantics.specs.declared.state.Action.TheVariants.{OnVariable, OnMutex, Wait as Waits, OnCondition, OnSemaphore}
-use Rattle.semantics.specs.Machine.{Snapshot, acts, step, is_enabled, next_of, thread_at, missing_thread, value_of, owner_of, queue_of, count_of, var_after, woken, woken_status, wake}
-use Rattle.semantics.specs.Accesses.Access.{writes_var, writes_mutex, writes_condition, writes_semaphore}
 use Rattle.semantics.specs.Accesses.{Writes}
+use Rattle.semantics.specs.Accesses.Access.{writes_var, writes_mutex, writes_condition, writes_semaphore}
 use Rattle.semantics.specs.Accesses.Object.{variable, mutex, condition, semaphore}
 use Rattle.semantics.specs.Effects.{IsAboutTo, WasWoken, IsLeft}
+use Rattle.semantics.specs.Machine.{Snapshot, acts, step, is_enabled, next_of, thread_at, missing_thread, value_of, owner_of, queue_of, count_of, var_after, woken, woken_status, wake}
+use Rattle.semantics.specs.declared.state.Action.{Action}
+use Rattle.semantics.specs.declared.state.Action.TheVariants.{OnVariable, OnMutex, Wait as Waits, OnCondition, OnSemaphore}
+use Rattle.semantics.specs.declared.state.Status.{Status}
+use Rattle.semantics.specs.declared.state.Status.TheVariants.{Running, Waiting, Woken, Ended, Stopped}
+use Rattle.semantics.specs.declared.state.{Thread.Thread, VariableAction.VariableAction}
+use Rattle.semantics.specs.declared.state.VariableAction.TheVariants.{Load as Loads, Store as Stores, Add as Adds, Cas as Swaps}
 use Rattle.semantics.proofs.WorkFalls.{Moves, moves}
 
 -- a write that leaves a place as it is

@@ -1,22 +1,18 @@
 -- What a step changed, put back.
-use Rattle.std.proofs.Common.{◌≡◌, ◌≢◌, ℕ, zero, suc, pos, ◌<◌, true, inl, inr, List, [], ◌∷◌, length, Some, None, slice_get, get_or, set, refl, ap, ◌∙◌, sym, arith, subst}
 use Rattle.std.specs.Prelude.{All, ◌⊎◌}
+use Rattle.std.proofs.Common.{◌≡◌, ◌≢◌, ℕ, zero, suc, pos, ◌<◌, true, inl, inr, List, [], ◌∷◌, length, Some, None, slice_get, get_or, set, refl, ap, ◌∙◌, sym, arith, subst}
 use Rattle.std.proofs.lemmas.List.{get_or_read, set-set, set-get_or}
 use Rattle.guest_code.specs.Program.{Program, code_of}
-use Rattle.semantics.specs.declared.state.Status.{Status}
-use Rattle.semantics.specs.declared.state.Status.TheVariants.{Waiting}
-use Rattle.semantics.specs.declared.state.Thread.{Thread}
-use Rattle.semantics.specs.declared.state.ConditionAction.{ConditionAction}
-use Rattle.semantics.specs.declared.state.ConditionAction.TheVariants.{Signal as Signals, Broadcast as Broadcasts}
-use Rattle.semantics.specs.declared.state.Action.{Action}
-use Rattle.semantics.specs.declared.state.Action.TheVariants.{OnVariable, OnMutex, Wait as Waits, OnCondition, OnSemaphore}
-use Rattle.semantics.specs.declared.undo.Undo.{Undo}
 use Rattle.semantics.specs.Machine.{Snapshot, acts, performed, next_of, action_at, is_enabled, thread_at, missing_thread, wake, woken, with_status, threads_to_wake, queue_of, queue_after, queue_joined, owner_of, owner_after, given_back, count_of, count_after, value_of, var_after, reader_after, taker_after, waiter_after, counter_after, resumed}
-use Rattle.semantics.specs.Waiters.{In, HasWaiters}
 use Rattle.semantics.specs.Reachable.{IsOf, IsValidAction}
 use Rattle.semantics.specs.Undoing.{objects_of, put_back, waiting_again, undone, HasObjects, IsRecordOf}
-use Rattle.semantics.proofs.StepsKeepStates.{queue_below, step_is_of}
-use Rattle.semantics.proofs.WorkFalls.{enabled_below}
+use Rattle.semantics.specs.{Waiters.{In, HasWaiters}, declared.state.Action.Action}
+use Rattle.semantics.specs.declared.state.Action.TheVariants.{OnVariable, OnMutex, Wait as Waits, OnCondition, OnSemaphore}
+use Rattle.semantics.specs.declared.state.ConditionAction.{ConditionAction}
+use Rattle.semantics.specs.declared.state.ConditionAction.TheVariants.{Signal as Signals, Broadcast as Broadcasts}
+use Rattle.semantics.specs.declared.state.{Status.Status, Status.TheVariants.Waiting, Thread.Thread}
+use Rattle.semantics.specs.declared.undo.Undo.{Undo}
+use Rattle.semantics.proofs.{StepsKeepStates.{queue_below, step_is_of}, WorkFalls.enabled_below}
 
 -- what was written is written back
 set_back : {A : Type 0} (xs : List A) (i : ℕ) (a d : A) → set (set xs i a) i (get_or xs i d) ≡ xs

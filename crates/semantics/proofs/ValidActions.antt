@@ -1,13 +1,10 @@
 -- What a thread is about to do is on objects of the program.
-use Rattle.std.proofs.Common.{rules, Option, Some}
 use Rattle.std.specs.Prelude.{IfSome}
-use Rattle.guest_code.specs.declared.program.Instruction.{Instruction}
+use Rattle.std.proofs.Common.{rules, Option, Some}
+use Rattle.guest_code.specs.{Program.{Program, IsValid}, declared.program.Instruction.Instruction}
 use Rattle.guest_code.specs.declared.program.Instruction.TheVariants.{Load, Add, Cas, Wait, Set, Assert, SkipIfZero, Skip}
-use Rattle.guest_code.specs.Program.{Program, IsValid}
-use Rattle.semantics.specs.declared.state.Status.{Status}
-use Rattle.semantics.specs.declared.state.Status.TheVariants.{Running, Woken}
-use Rattle.semantics.specs.Actions.{action_of, action_at}
-use Rattle.semantics.specs.Reachable.{IsValidAction}
+use Rattle.semantics.specs.{Actions.{action_of, action_at}, Reachable.IsValidAction}
+use Rattle.semantics.specs.declared.state.Status.{Status, TheVariants.{Running, Woken}}
 
 valid_action_of : (p : Program) (i : Instruction) → IsValid p i
     → IfSome (action_of i) (IsValidAction p)

@@ -1,16 +1,14 @@
 -- What steps on variables do.
 use Rattle.std.proofs.Common.{◌≡◌, ◌≢◌, ◌<◌, ℕ, ℤ, pos, Bool, true, false, cond, length, set, refl, ap, ◌∙◌, get_or-set_same, get_or-set_other}
-use Rattle.std.specs.Ordering.{int_eq}
+use Rattle.std.{specs.Ordering.int_eq, proofs.lemmas.Bool.Decides.Decides-int_eq}
 use Rattle.std.proofs.lemmas.List.{set-get_or}
-use Rattle.std.proofs.lemmas.Bool.Decides.{Decides-int_eq}
 use Rattle.guest_syntax.specs.declared.tree.Op.TheVariants.{Add as Plus}
-use Rattle.guest_code.specs.declared.program.Value.{Value}
-use Rattle.guest_code.specs.Program.{Program, code_of}
+use Rattle.guest_code.specs.{Program.{Program, code_of}, declared.program.Value.Value}
+use Rattle.semantics.specs.Effects.{operand_of, IsAboutTo, RunsOn, RunsOnAs, PutsInto}
+use Rattle.semantics.specs.Machine.{Snapshot, step, thread_at, value_of, of_both, one_or_zero, with_local, resumed, var_after, reader_after, is_expected}
+use Rattle.semantics.specs.declared.state.Action.TheVariants.{OnVariable}
 use Rattle.semantics.specs.declared.state.VariableAction.{VariableAction}
 use Rattle.semantics.specs.declared.state.VariableAction.TheVariants.{Load as Loads, Store as Stores, Add as Adds, Cas as Swaps}
-use Rattle.semantics.specs.declared.state.Action.TheVariants.{OnVariable}
-use Rattle.semantics.specs.Machine.{Snapshot, step, thread_at, value_of, of_both, one_or_zero, with_local, resumed, var_after, reader_after, is_expected}
-use Rattle.semantics.specs.Effects.{operand_of, IsAboutTo, RunsOn, RunsOnAs, PutsInto}
 use Rattle.semantics.proofs.StepFrame.{step_is, set_thread}
 
 module _ (p : Program) (s : Snapshot) (t x : ℕ) where

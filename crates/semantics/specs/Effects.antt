@@ -1,14 +1,11 @@
 -- Words for what one step does to the thread that takes it, and to others.
 use Rattle.std.specs.Prelude.{◌≡◌, ◌≢◌, ◌<◌, ◌⊎◌, ℕ, ℤ, pos, length, Some, slice_index_or}
-use Rattle.guest_code.specs.declared.program.Value.{Value}
-use Rattle.guest_code.specs.Program.{Program, code_of}
-use Rattle.semantics.specs.declared.state.Action.{Action}
-use Rattle.semantics.specs.declared.state.Stop.TheVariants.{NotHeld, SemFull}
-use Rattle.semantics.specs.declared.state.Status.{Status}
-use Rattle.semantics.specs.declared.state.Status.TheVariants.{Waiting, Woken, Ended, Stopped}
-use Rattle.semantics.specs.declared.state.Thread.{Thread}
-use Rattle.semantics.specs.Machine.{Snapshot, next_of, thread_at, step, resumed, value_of_operand}
+use Rattle.guest_code.specs.{Program.{Program, code_of}, declared.program.Value.Value}
 use Rattle.semantics.specs.FinalKinds.{HasStopped}
+use Rattle.semantics.specs.Machine.{Snapshot, next_of, thread_at, step, resumed, value_of_operand}
+use Rattle.semantics.specs.declared.state.{Action.Action, Status.Status}
+use Rattle.semantics.specs.declared.state.Status.TheVariants.{Waiting, Woken, Ended, Stopped}
+use Rattle.semantics.specs.declared.state.{Stop.TheVariants.{NotHeld, SemFull}, Thread.Thread}
 
 -- thread t is about to do this
 abbrev pub IsAboutTo : Program → Snapshot → ℕ → Action → Type 0

@@ -1,8 +1,7 @@
 -- What the kind of a schedule's end says of its threads.
 use Rattle.std.specs.Prelude.{◌≡◌, ◌≢◌, List, All}
 use Rattle.std.specs.List.{Any}
-use Rattle.semantics.specs.declared.state.Stop.{Stop}
-use Rattle.semantics.specs.declared.state.Status.TheVariants.{Ended, Stopped}
+use Rattle.semantics.specs.declared.state.{Status.TheVariants.{Ended, Stopped}, Stop.Stop}
 use Rattle.semantics.specs.declared.state.Thread.{Thread}
 
 -- the thread stopped, for some reason

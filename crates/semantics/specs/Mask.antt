@@ -1,11 +1,8 @@
 -- Sets of thread numbers.
 use Rattle.std.specs.Prelude.{◌≡◌, ℕ, zero, suc, ◌+◌, ◌-◌, ◌*◌, ◌^◌, Bool, nat_eq, List, filter, true, false}
 use Rattle.std.specs.Int.{bit_at}
-use Rattle.guest_code.specs.declared.limits.TheConstants.{THREADS}
-use Rattle.guest_code.specs.Program.{Program}
-use Rattle.semantics.specs.declared.mask.Mask.{Mask}
-use Rattle.semantics.specs.Machine.{Snapshot, is_enabled}
-use Rattle.semantics.specs.Work.{up_from}
+use Rattle.guest_code.specs.{Program.Program, declared.limits.TheConstants.THREADS}
+use Rattle.semantics.specs.{Machine.{Snapshot, is_enabled}, Work.up_from, declared.mask.Mask.Mask}
 
 -- the thread is in the set
 abbrev pub has : Mask → ℕ → Bool

@@ -1,16 +1,13 @@
 -- One instruction after the other, as far as a thread does it by itself, over its locals alone.
 use Rattle.std.specs.Prelude.{◌≡◌, ℕ, ◌+◌, ◌<◌, ◌≤◌, ℤ, min, List, [], ◌∷◌, length, drop, slice_set, if◌then◌else◌}
-use Rattle.guest_code.specs.Program.{IsValueBelow}
-use Rattle.guest_code.specs.declared.program.Instruction.{Instruction}
+use Rattle.guest_code.specs.{Program.IsValueBelow, declared.program.Instruction.Instruction}
 use Rattle.guest_code.specs.declared.program.Instruction.TheVariants.{Lock, Acquire, Set, Assert, SkipIfZero, Skip}
-use Rattle.semantics.specs.declared.state.Thread.{Thread}
-use Rattle.semantics.specs.declared.state.Status.{Status}
+use Rattle.semantics.specs.Expressions.{value_of_expression, is_zero}
+use Rattle.semantics.specs.declared.local.{Landing.Landing, Turn.Turn}
+use Rattle.semantics.specs.declared.local.Turn.TheVariants.{Runs, Fails, Takes, Visible, Ends}
+use Rattle.semantics.specs.declared.state.{Status.Status, Thread.Thread}
 use Rattle.semantics.specs.declared.state.VariableAction.{VariableAction}
 use Rattle.semantics.specs.declared.state.VariableAction.TheVariants.{Load as Loads, Store as Stores, Add as Adds, Cas as Swaps}
-use Rattle.semantics.specs.declared.local.Landing.{Landing}
-use Rattle.semantics.specs.declared.local.Turn.{Turn}
-use Rattle.semantics.specs.declared.local.Turn.TheVariants.{Runs, Fails, Takes, Visible, Ends}
-use Rattle.semantics.specs.Expressions.{value_of_expression, is_zero}
 
 -- the thread at this place, with these locals
 abbrev pub own_thread : Landing → List ℤ → Thread

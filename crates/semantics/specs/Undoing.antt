@@ -1,13 +1,12 @@
 -- Taking a step back: what is noted of it, and the state that it gives back.
 use Rattle.std.specs.Prelude.{ℕ, ◌<◌, List, [], ◌∷◌, length, slice_index_or, slice_set, All}
-use Rattle.semantics.specs.declared.state.Thread.{Thread}
-use Rattle.semantics.specs.declared.state.Status.TheVariants.{Waiting}
+use Rattle.semantics.specs.Machine.{Snapshot, value_of, owner_of, queue_of, count_of, with_status, missing_thread}
 use Rattle.semantics.specs.declared.state.Action.{Action}
 use Rattle.semantics.specs.declared.state.Action.TheVariants.{OnVariable, OnMutex, Wait as Waits, OnCondition, OnSemaphore}
+use Rattle.semantics.specs.declared.state.{Status.TheVariants.Waiting, Thread.Thread}
 use Rattle.semantics.specs.declared.state.objects.Objects.{Objects}
 use Rattle.semantics.specs.declared.state.objects.Objects.TheVariants.{Variable, Owner, Wait, Call, Count}
 use Rattle.semantics.specs.declared.undo.Undo.{Undo}
-use Rattle.semantics.specs.Machine.{Snapshot, value_of, owner_of, queue_of, count_of, with_status, missing_thread}
 
 -- these threads wait for condition c
 abbrev pub waiting_again : ℕ → List ℕ → List Thread → List Thread

@@ -3,10 +3,9 @@
 ghost use Rattle.std.specs.Prelude.{◌≡◌, ◌<◌, Some, length, slice_get, IfOk, IfSome};
 ghost use Rattle.std.specs.List.{list_any, list_all};
 ghost use Rattle.guest_code.specs.Program.{Program, IsValidValue};
-ghost use Rattle.semantics.specs.Machine.{start, can_do, is_enabled, next_of, thread_at, owner_of, queue_of, count_of, value_of_operand};
-ghost use Rattle.semantics.specs.Reachable.{IsOf, IsValidAction, StandsInCode};
 ghost use Rattle.semantics.specs.Ends.{is_terminal, kind_of, view_of, final_kind, is_stopped, is_ended, stop_of};
-ghost use Rattle.semantics.specs.Mask.{HasEnabled};
+ghost use Rattle.semantics.specs.Machine.{start, can_do, is_enabled, next_of, thread_at, owner_of, queue_of, count_of, value_of_operand};
+ghost use Rattle.semantics.specs.{Mask.HasEnabled, Reachable.{IsOf, IsValidAction, StandsInCode}};
 
 pub(crate) mod objects;
 mod steps;

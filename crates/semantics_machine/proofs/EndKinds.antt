@@ -2,13 +2,11 @@
 use Rattle.std.proofs.Common.{◌≡◌, ℕ, zero, suc, Bool, true, false, cond, not, ◌&&◌, ◌||◌, List, [], ◌∷◌, get_or, refl, ap, ◌∙◌, sym}
 use Rattle.std.specs.List.{list_any, list_all}
 use Rattle.guest_code.specs.Program.{Program}
-use Rattle.semantics.specs.declared.view.Kind.TheVariants.{Done, Failed, Stuck}
-use Rattle.semantics.specs.declared.state.Thread.{Thread}
-use Rattle.semantics.specs.Machine.{Snapshot, thread_at, missing_thread}
 use Rattle.semantics.specs.Ends.{is_stopped, is_ended, final_kind}
-use Rattle.semantics.specs.Mask.{has}
-use Rattle.semantics_machine.specs.declared.control.Control.{Control}
-use Rattle.semantics_machine.specs.Refinement.{IsControl}
+use Rattle.semantics.specs.{Machine.{Snapshot, thread_at, missing_thread}, Mask.has}
+use Rattle.semantics.specs.declared.state.Thread.{Thread}
+use Rattle.semantics.specs.declared.view.Kind.TheVariants.{Done, Failed, Stuck}
+use Rattle.semantics_machine.specs.{Refinement.IsControl, declared.control.Control.Control}
 
 or_true : (b : Bool) → (b || true) ≡ true
 or_true true = refl

@@ -1,33 +1,25 @@
 -- A thread is put where it is after its step, or after it was called.
+use Rattle.std.specs.Prelude.{if◌then◌else◌}
 use Rattle.std.proofs.Common.{◌≡◌, ◌≢◌, ℕ, zero, suc, ◌+◌, ◌<◌, ℤ, cond, List, [], ◌∷◌, drop, slice_get, Bool, true, false, not, ◌&&◌, ◌⊎◌, nat_eq, nat_lt, length, Option, Some, None, get_or, set, refl, ap, ◌∙◌, sym, subst, arith, get_or-set_same, get_or-set_other, inl, inr}
 use Rattle.std.proofs.lemmas.Bool.{cases_order}
-use Rattle.std.specs.Prelude.{if◌then◌else◌}
-use Rattle.guest_code.specs.declared.program.Expression.{Expression}
+use Rattle.guest_code.specs.{Program.Program, declared.program.Expression.Expression}
 use Rattle.guest_code.specs.declared.program.Instruction.{Instruction}
 use Rattle.guest_code.specs.declared.program.Instruction.TheVariants.{Lock, Acquire, Set, Assert, SkipIfZero, Skip}
-use Rattle.guest_code.specs.Program.{Program}
-use Rattle.semantics.specs.declared.mask.Mask.{Mask}
-use Rattle.semantics.specs.declared.state.Thread.{Thread}
-use Rattle.semantics.specs.declared.state.Status.TheVariants.{Running, Waiting}
+use Rattle.semantics.specs.Ends.{is_stopped, is_ended}
+use Rattle.semantics.specs.Machine.{Snapshot, thread_at, owner_of, can_do, is_free, missing_thread, action_of, action_at, value_of_expression, is_zero}
+use Rattle.semantics.specs.{Mask.has, Turns.{turn_of, IsFree}, declared.local.Landing.Landing}
+use Rattle.semantics.specs.declared.{local.Turn.TheVariants.{Runs, Fails, Visible}, mask.Mask.Mask}
+use Rattle.semantics.specs.declared.state.Action.{Action, TheVariants.{OnMutex, OnSemaphore}}
 use Rattle.semantics.specs.declared.state.MutexAction.{MutexAction}
 use Rattle.semantics.specs.declared.state.MutexAction.TheVariants.{Lock as Locks, Unlock as Unlocks, Retake as Retakes}
 use Rattle.semantics.specs.declared.state.SemaphoreAction.TheVariants.{Acquire as Acquires}
-use Rattle.semantics.specs.declared.state.Action.{Action}
-use Rattle.semantics.specs.declared.state.Action.TheVariants.{OnMutex, OnSemaphore}
-use Rattle.semantics.specs.Machine.{Snapshot, thread_at, owner_of, can_do, is_free, missing_thread, action_of, action_at, value_of_expression, is_zero}
-use Rattle.semantics.specs.Turns.{turn_of, IsFree}
-use Rattle.semantics.specs.declared.local.Turn.TheVariants.{Runs, Fails, Visible}
-use Rattle.semantics.specs.Mask.{has}
-use Rattle.semantics.specs.Ends.{is_stopped, is_ended}
-use Rattle.semantics_machine.specs.declared.control.Control.{Control}
-use Rattle.semantics_machine.specs.declared.control.TheConstants.{FREE}
-use Rattle.semantics.specs.declared.local.Landing.{Landing}
+use Rattle.semantics.specs.declared.state.{Status.TheVariants.{Running, Waiting}, Thread.Thread}
 use Rattle.semantics_machine.specs.Refinement.{thread_or_none, takes_mutex, takes_semaphore, is_woken, at_mutex, at_semaphore, held, next_at, HasObjects, HasThreadAt, IsControl}
+use Rattle.semantics_machine.specs.declared.control.{Control.Control, TheConstants.FREE}
 use Rattle.semantics_machine.specs.inner.LocalRuns.{IsLandingOf}
 use Rattle.semantics_machine.specs.inner.Parts.{IsIdle, IsApart, IsControlBut, LeavesOthers, IsMarked, Stands, Lands, IsTaking, IsPlain, IsFreeIn}
-use Rattle.semantics_machine.specs.inner.Steps.{Faces}
+use Rattle.semantics_machine.{specs.inner.Steps.Faces, proofs.Lists.{set_has, set_there}}
 use Rattle.semantics_machine.proofs.Objects.{can_held}
-use Rattle.semantics_machine.proofs.Lists.{set_has, set_there}
 
 and_true : (b : Bool) → (b && true) ≡ b
 and_true true = refl

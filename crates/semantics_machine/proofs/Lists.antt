@@ -1,10 +1,8 @@
 -- Lists of which one element is written.
 use Rattle.std.proofs.Common.{◌≡◌, ◌≢◌, ℕ, zero, suc, ◌<◌, ◌≤◌, Bool, true, false, cond, ◌&&◌, nat_eq, List, [], ◌∷◌, length, replicate, Some, None, slice_get, get_or, set, refl, ap, ◌∙◌, sym, arith, get_or-set_same, get_or-set_other, inl, inr}
-use Rattle.std.proofs.lemmas.Bool.{cases_lt, cases_order}
-use Rattle.std.proofs.lemmas.Bool.Decides.{nat_tests}
+use Rattle.std.proofs.lemmas.Bool.{cases_lt, cases_order, Decides.nat_tests}
 use Rattle.std.proofs.lemmas.List.{get_or_past, get_or-replicate, length-replicate}
-use Rattle.semantics.specs.declared.mask.Mask.{Mask}
-use Rattle.semantics.specs.Mask.{has, no_threads}
+use Rattle.semantics.specs.{Mask.{has, no_threads}, declared.mask.Mask.Mask}
 
 -- what holds of the element that is written, and of the others, holds of each
 pub by_place : {A : Type 0} (P : ℕ → A → Type 0) (xs : List A) (m : ℕ) (v d : A) → m < length xs

@@ -1,32 +1,24 @@
 -- What a thread does with those of its locals that are kept, and how many are enough.
-use Rattle.std.proofs.Common.{◌≡◌, ℕ, ℤ, zero, suc, ◌+◌, ◌≤◌, true, false, cond, List, [], ◌∷◌, length, take, drop, set, refl, ap, ◌∙◌, sym, arith}
 use Rattle.std.specs.Prelude.{All, pos}
-use Rattle.std.specs.Int.{int_wrapping_add, w64}
-use Rattle.std.specs.Ordering.{int_eq}
-use Rattle.std.proofs.Math.Seq.{take-set-lt}
-use Rattle.std.proofs.lemmas.List.{get_or-take}
-use Rattle.std.proofs.lemmas.List.Elements.{All-drop}
+use Rattle.std.proofs.Common.{◌≡◌, ℕ, ℤ, zero, suc, ◌+◌, ◌≤◌, true, false, cond, List, [], ◌∷◌, length, take, drop, set, refl, ap, ◌∙◌, sym, arith}
+use Rattle.std.specs.{Int.{int_wrapping_add, w64}, Ordering.int_eq}
+use Rattle.std.proofs.{Math.Seq.take-set-lt, lemmas.List.get_or-take, lemmas.List.Elements.All-drop}
 use Rattle.guest_code.specs.Program.{Program, code_of, IsValueBelow, IsExpressionBelow, LocalsBelow}
-use Rattle.guest_code.specs.declared.program.Value.{Value}
-use Rattle.guest_code.specs.declared.program.Value.TheVariants.{Local, Literal}
-use Rattle.guest_code.specs.declared.program.Expression.{Expression}
-use Rattle.guest_code.specs.declared.program.Expression.TheVariants.{Single, Both}
+use Rattle.guest_code.specs.declared.program.Expression.{Expression, TheVariants.{Single, Both}}
 use Rattle.guest_code.specs.declared.program.Instruction.{Instruction}
 use Rattle.guest_code.specs.declared.program.Instruction.TheVariants.{Load, Store, Add, Cas, Set, Assert, SkipIfZero, Skip}
-use Rattle.semantics.specs.declared.state.Stop.TheVariants.{Assert as FailedAssert}
+use Rattle.guest_code.specs.declared.program.Value.{Value, TheVariants.{Local, Literal}}
+use Rattle.semantics.specs.Expressions.{of_both}
+use Rattle.semantics.specs.Machine.{Snapshot, thread_at, value_of_operand, var_after, reader_after, is_expected, one_or_zero, with_status, with_local, advance, local_run, run_from, value_of_expression, is_zero}
+use Rattle.semantics.specs.Turns.{own_thread, IsAccessBelow, turn_of, locals_after}
+use Rattle.semantics.specs.declared.local.{Landing.Landing, Turn.TheVariants.Runs}
+use Rattle.semantics.specs.declared.state.Status.{Status, TheVariants.{Running, Stopped}}
+use Rattle.semantics.specs.declared.state.{Stop.TheVariants.Assert as FailedAssert, Thread.Thread}
 use Rattle.semantics.specs.declared.state.VariableAction.{VariableAction}
 use Rattle.semantics.specs.declared.state.VariableAction.TheVariants.{Load as Loads, Store as Stores, Add as Adds, Cas as Swaps}
-use Rattle.semantics.specs.declared.state.Thread.{Thread}
-use Rattle.semantics.specs.declared.state.Status.{Status}
-use Rattle.semantics.specs.declared.state.Status.TheVariants.{Running, Stopped}
-use Rattle.semantics.specs.Machine.{Snapshot, thread_at, value_of_operand, var_after, reader_after, is_expected, one_or_zero, with_status, with_local, advance, local_run, run_from, value_of_expression, is_zero}
-use Rattle.semantics.specs.Expressions.{of_both}
-use Rattle.semantics_machine.specs.declared.control.Control.{Control}
-use Rattle.semantics.specs.declared.local.Landing.{Landing}
-use Rattle.semantics.specs.Turns.{own_thread, IsAccessBelow, turn_of, locals_after}
-use Rattle.semantics_machine.specs.inner.LocalRuns.{narrow, IsLandingOf}
-use Rattle.semantics.specs.declared.local.Turn.TheVariants.{Runs}
 use Rattle.semantics.proofs.LocalRuns.{turn_run}
+use Rattle.semantics_machine.specs.declared.control.Control.{Control}
+use Rattle.semantics_machine.specs.inner.LocalRuns.{narrow, IsLandingOf}
 use Rattle.semantics_machine.specs.inner.Steps.{settled, going_on, place_after, IsPerformed, IsPassed}
 
 narrow_value : (n : ℕ) (L : List ℤ) (a : Value) → IsValueBelow n a

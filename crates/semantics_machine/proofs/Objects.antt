@@ -1,23 +1,18 @@
 -- Who may go on after a change of an object, and the sets of those who are at it.
-use Rattle.std.proofs.Common.{◌≡◌, ◌≢◌, ℕ, zero, suc, ◌+◌, ◌-◌, ◌<◌, Bool, true, false, cond, not, ◌&&◌, ◌||◌, nat_eq, nat_lt, length, Option, Some, None, slice_get, get_or, set, refl, ap, ◌∙◌, sym, arith, get_or-set_same, get_or-set_other}
 use Rattle.std.specs.Prelude.{if◌then◌else◌}
+use Rattle.std.proofs.Common.{◌≡◌, ◌≢◌, ℕ, zero, suc, ◌+◌, ◌-◌, ◌<◌, Bool, true, false, cond, not, ◌&&◌, ◌||◌, nat_eq, nat_lt, length, Option, Some, None, slice_get, get_or, set, refl, ap, ◌∙◌, sym, arith, get_or-set_same, get_or-set_other}
 use Rattle.std.proofs.lemmas.Bool.Decides.{nat_tests}
-use Rattle.guest_code.specs.Program.{Program, code_of}
-use Rattle.guest_code.specs.declared.program.Instruction.{Instruction}
-use Rattle.semantics.specs.declared.mask.Mask.{Mask}
-use Rattle.semantics.specs.declared.state.Status.{Status}
-use Rattle.semantics.specs.declared.state.Status.TheVariants.{Ended, Stopped}
+use Rattle.guest_code.specs.{Program.{Program, code_of}, declared.program.Instruction.Instruction}
+use Rattle.semantics.specs.Ends.{is_stopped, is_ended}
+use Rattle.semantics.specs.Machine.{Snapshot, thread_at, owner_of, count_of, next_of, is_enabled, can_do, action_at, is_free}
+use Rattle.semantics.specs.{Mask.has, declared.mask.Mask.Mask, declared.state.Action.Action}
+use Rattle.semantics.specs.declared.state.Action.TheVariants.{OnVariable, OnMutex, Wait as Waits, OnCondition, OnSemaphore}
 use Rattle.semantics.specs.declared.state.MutexAction.{MutexAction}
 use Rattle.semantics.specs.declared.state.MutexAction.TheVariants.{Lock as Locks, Unlock as Unlocks, Retake as Retakes}
 use Rattle.semantics.specs.declared.state.SemaphoreAction.TheVariants.{Acquire as Acquires, Release as Releases}
-use Rattle.semantics.specs.declared.state.Action.{Action}
-use Rattle.semantics.specs.declared.state.Action.TheVariants.{OnVariable, OnMutex, Wait as Waits, OnCondition, OnSemaphore}
-use Rattle.semantics.specs.Machine.{Snapshot, thread_at, owner_of, count_of, next_of, is_enabled, can_do, action_at, is_free}
-use Rattle.semantics.specs.Mask.{has}
-use Rattle.semantics.specs.Ends.{is_stopped, is_ended}
-use Rattle.semantics_machine.specs.declared.control.Control.{Control}
-use Rattle.semantics_machine.specs.declared.control.TheConstants.{FREE}
+use Rattle.semantics.specs.declared.state.Status.{Status, TheVariants.{Ended, Stopped}}
 use Rattle.semantics_machine.specs.Refinement.{takes_mutex, takes_semaphore, at_mutex, at_semaphore, held, thread_or_none, HasObjects, HasThreadAt, IsControl}
+use Rattle.semantics_machine.specs.declared.control.{Control.Control, TheConstants.FREE}
 use Rattle.semantics_machine.specs.inner.Parts.{IsControlBut, IsLeaving, IsTaking}
 use Rattle.semantics_machine.proofs.Lists.{by_place, same_set, set_has, set_there, test_set}
 

@@ -1,33 +1,25 @@
 -- The opening: thread after thread is put where it is.
-use Rattle.std.proofs.Common.{◌≡◌, ◌≢◌, ℕ, ℤ, zero, suc, ◌+◌, ◌*◌, ◌<◌, ◌≤◌, true, false, cond, pos, nat_lt, List, [], ◌∷◌, ◌++◌, length, replicate, take, drop, None, get_or, set, refl, ap, ◌∙◌, sym, subst, arith, length-set, inl, inr}
 use Rattle.std.specs.Prelude.{All}
-use Rattle.std.proofs.lemmas.Bool.{cases_lt}
+use Rattle.std.proofs.Common.{◌≡◌, ◌≢◌, ℕ, ℤ, zero, suc, ◌+◌, ◌*◌, ◌<◌, ◌≤◌, true, false, cond, pos, nat_lt, List, [], ◌∷◌, ◌++◌, length, replicate, take, drop, None, get_or, set, refl, ap, ◌∙◌, sym, subst, arith, length-set, inl, inr}
+use Rattle.std.proofs.{Math.Seq.drop-append_seam, lemmas.Bool.cases_lt}
 use Rattle.std.proofs.lemmas.Bool.Decides.{nat_tests}
-use Rattle.std.proofs.Math.Seq.{drop-append_seam}
 use Rattle.std.proofs.lemmas.List.{get_or_past, get_or-take, get_or-map, length-map, length-replicate, length-take, take_all, length-append, length-drop, drop-append-le, take-append-le, set-get_or}
-use Rattle.guest_code.specs.declared.limits.TheConstants.{COUNT, LOCALS}
+use Rattle.std.proofs.lemmas.List.Elements.{All-map}
 use Rattle.guest_code.specs.Program.{Program, IsWellFormed, LocalsBelow, no_semaphore, no_thread, code_of}
-use Rattle.semantics.specs.declared.mask.Mask.{Mask}
-use Rattle.semantics.specs.declared.state.Thread.{Thread}
+use Rattle.guest_code.specs.declared.limits.TheConstants.{COUNT, LOCALS}
 use Rattle.guest_code.specs.declared.program.Instruction.{Instruction}
 use Rattle.guest_code.specs.declared.program.Instruction.TheVariants.{Set, Assert, SkipIfZero, Skip}
-use Rattle.semantics.specs.declared.state.Stop.TheVariants.{Assert as FailedAssert}
-use Rattle.semantics.specs.declared.state.Status.TheVariants.{Stopped}
 use Rattle.semantics.specs.Machine.{Snapshot, thread_at, missing_thread, initial_thread, start, local_run, advance, with_local, with_status, value_of_expression, is_zero}
-use Rattle.semantics.specs.Mask.{has, no_threads}
-use Rattle.semantics.proofs.Masks.{empty_has}
-use Rattle.semantics.proofs.StepsKeepStates.{start_is_of}
-use Rattle.std.proofs.lemmas.List.Elements.{All-map}
-use Rattle.semantics_machine.specs.declared.control.Control.{Control}
-use Rattle.semantics_machine.specs.declared.control.TheConstants.{FREE}
-use Rattle.semantics_machine.specs.declared.machine.Machine.{Machine}
-use Rattle.semantics_machine.specs.declared.machine.Shape.{Shape}
-use Rattle.semantics_machine.specs.Touches.{AreTouches}
+use Rattle.semantics.specs.{Mask.{has, no_threads}, declared.mask.Mask.Mask}
+use Rattle.semantics.specs.declared.state.Status.TheVariants.{Stopped}
+use Rattle.semantics.specs.declared.state.{Stop.TheVariants.Assert as FailedAssert, Thread.Thread}
+use Rattle.semantics.proofs.{Masks.empty_has, StepsKeepStates.start_is_of}
 use Rattle.semantics_machine.specs.Refinement.{HasObjects, HasThreadAt, IsControl, Shows, AreQueues, thread_or_none, locals_at, queued}
-use Rattle.semantics_machine.specs.inner.Parts.{Lands}
-use Rattle.semantics_machine.specs.inner.Opening.{IsOpenedTo, IsOpening}
-use Rattle.semantics_machine.proofs.Lists.{by_place, same_all}
-use Rattle.semantics_machine.proofs.Landings.{with_thread}
+use Rattle.semantics_machine.specs.{Touches.AreTouches, declared.control.Control.Control}
+use Rattle.semantics_machine.specs.declared.{control.TheConstants.FREE, machine.Machine.Machine}
+use Rattle.semantics_machine.specs.declared.machine.Shape.{Shape}
+use Rattle.semantics_machine.specs.inner.{Opening.{IsOpenedTo, IsOpening}, Parts.Lands}
+use Rattle.semantics_machine.proofs.{Landings.with_thread, Lists.{by_place, same_all}}
 use Rattle.semantics_machine.proofs.Values.{chunk_inside}
 
 -- the opening counts

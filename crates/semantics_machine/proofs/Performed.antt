@@ -1,33 +1,26 @@
 -- What each statement's step makes of a state, but for what its thread does itself after it.
-use Rattle.std.proofs.Common.{◌≡◌, ◌≢◌, ℕ, ℤ, ◌+◌, ◌-◌, ◌<◌, ◌≤◌, true, false, Bool, cond, ◌⊎◌, nat_eq, List, [], ◌∷◌, ◌++◌, length, take, drop, pos, Option, Some, None, get_or, set, refl, ap, ◌∙◌, sym, subst, arith, get_or-set_same, get_or-set_other, length-set, inl, inr}
 use Rattle.std.specs.Prelude.{if◌then◌else◌}
-use Rattle.std.proofs.lemmas.Bool.{cases_lt, cases_order}
-use Rattle.std.proofs.lemmas.Bool.Decides.{nat_tests}
+use Rattle.std.proofs.Common.{◌≡◌, ◌≢◌, ℕ, ℤ, ◌+◌, ◌-◌, ◌<◌, ◌≤◌, true, false, Bool, cond, ◌⊎◌, nat_eq, List, [], ◌∷◌, ◌++◌, length, take, drop, pos, Option, Some, None, get_or, set, refl, ap, ◌∙◌, sym, subst, arith, get_or-set_same, get_or-set_other, length-set, inl, inr}
+use Rattle.std.proofs.Math.{Path.transport, Seq.take-set-lt}
+use Rattle.std.proofs.lemmas.Bool.{cases_lt, cases_order, Decides.nat_tests}
 use Rattle.std.proofs.lemmas.List.{set-get_or, get_or_past, get_or_default, get_or-take}
-use Rattle.std.proofs.Math.Seq.{take-set-lt}
-use Rattle.std.proofs.Math.Path.{transport}
-use Rattle.guest_code.specs.declared.limits.TheConstants.{COUNT}
+use Rattle.guest_code.specs.{Program.{Program, code_of}, declared.limits.TheConstants.COUNT}
 use Rattle.guest_code.specs.declared.program.Instruction.{Instruction}
 use Rattle.guest_code.specs.declared.program.Instruction.TheVariants.{Signal, Broadcast}
-use Rattle.guest_code.specs.Program.{Program, code_of}
-use Rattle.semantics.specs.declared.state.Stop.TheVariants.{NotHeld, SemFull}
-use Rattle.semantics.specs.declared.state.VariableAction.{VariableAction}
-use Rattle.semantics.specs.declared.state.Thread.{Thread}
+use Rattle.semantics.specs.Machine.{Snapshot, thread_at, owner_of, queue_of, count_of, value_of, action_of, missing_thread, next_of, var_after, reader_after, acts, owns, is_full, resumed, with_status, wake, woken, woken_status}
+use Rattle.semantics.specs.{Turns.{own_thread, IsAccessBelow}, Waiters.{In, Once}}
+use Rattle.semantics.specs.declared.{local.Landing.Landing, state.Action.Action}
+use Rattle.semantics.specs.declared.state.Action.TheVariants.{OnVariable, OnMutex, Wait as Waits, OnCondition, OnSemaphore}
+use Rattle.semantics.specs.declared.state.ConditionAction.TheVariants.{Signal as Signals, Broadcast as Broadcasts}
+use Rattle.semantics.specs.declared.state.MutexAction.TheVariants.{Lock as Locks, Unlock as Unlocks, Retake as Retakes}
+use Rattle.semantics.specs.declared.state.SemaphoreAction.TheVariants.{Acquire as Acquires, Release as Releases}
 use Rattle.semantics.specs.declared.state.Status.{Status}
 use Rattle.semantics.specs.declared.state.Status.TheVariants.{Running, Waiting, Woken, Ended, Stopped}
-use Rattle.semantics.specs.declared.state.MutexAction.TheVariants.{Lock as Locks, Unlock as Unlocks, Retake as Retakes}
-use Rattle.semantics.specs.declared.state.ConditionAction.TheVariants.{Signal as Signals, Broadcast as Broadcasts}
-use Rattle.semantics.specs.declared.state.SemaphoreAction.TheVariants.{Acquire as Acquires, Release as Releases}
-use Rattle.semantics.specs.declared.state.Action.{Action}
-use Rattle.semantics.specs.declared.state.Action.TheVariants.{OnVariable, OnMutex, Wait as Waits, OnCondition, OnSemaphore}
-use Rattle.semantics.specs.Machine.{Snapshot, thread_at, owner_of, queue_of, count_of, value_of, action_of, missing_thread, next_of, var_after, reader_after, acts, owns, is_full, resumed, with_status, wake, woken, woken_status}
-use Rattle.semantics.specs.Waiters.{In, Once}
+use Rattle.semantics.specs.declared.state.{Stop.TheVariants.{NotHeld, SemFull}, Thread.Thread}
+use Rattle.semantics.specs.declared.state.VariableAction.{VariableAction}
 use Rattle.semantics.proofs.StepsKeepStates.{room_in_queue}
-use Rattle.semantics_machine.specs.declared.control.Control.{Control}
-use Rattle.semantics_machine.specs.declared.control.TheConstants.{FREE}
-use Rattle.semantics.specs.declared.local.Landing.{Landing}
 use Rattle.semantics_machine.specs.Refinement.{queued, thread_or_none, takes_mutex, takes_semaphore}
-use Rattle.semantics.specs.Turns.{own_thread, IsAccessBelow}
+use Rattle.semantics_machine.specs.declared.control.{Control.Control, TheConstants.FREE}
 use Rattle.semantics_machine.specs.inner.Parts.{IsControlBut}
 use Rattle.semantics_machine.specs.inner.Steps.{AreShared, HasShared, IsPoised, IsPerformed, IsCalling, settled}
 use Rattle.semantics_machine.proofs.Lists.{set_twice}

@@ -1,19 +1,15 @@
 -- Queues that are kept in cells.
 use Rattle.std.proofs.Common.{◌≡◌, ◌≢◌, ℕ, zero, suc, ◌+◌, ◌-◌, ◌*◌, ◌/◌, ◌%◌, ◌^◌, ◌<◌, ◌≤◌, List, [], ◌∷◌, ◌++◌, length, take, drop, ℤ, pos, inl, inr, get_or, set, ap, ◌∙◌, sym, subst, arith, length-set, get_or-set_same, get_or-set_other}
 use Rattle.std.specs.Int.{cast_signed, cast_unsigned, w64}
-use Rattle.std.proofs.lemmas.Int.{of_z-to_z}
-use Rattle.std.proofs.lemmas.Bool.{cases_order}
-use Rattle.std.proofs.lemmas.List.{take-set-le, set-get_or}
 use Rattle.std.specs.Int.Bits.{bit_or, bit_and, or_zero_l, or_zero_r}
 use Rattle.std.proofs.Math.Nat.{div-one, div-eq_of_lt, mod-eq_of_lt, mul-mod_left}
+use Rattle.std.proofs.lemmas.{Bool.cases_order, Int.of_z-to_z, List.{take-set-le, set-get_or}}
 use Rattle.std.proofs.lemmas.Nat.{field_of, or_shr, or_mod, mod-pow-add, mod_low, or_lt, and_mask, shl-shr, shr-shr, mod_below}
 use Rattle.guest_code.specs.Program.{Program}
 use Rattle.semantics.specs.Machine.{Snapshot}
-use Rattle.semantics_machine.specs.declared.control.Control.{Control}
 use Rattle.semantics_machine.specs.Refinement.{queued, queued_in}
-use Rattle.semantics_machine.specs.inner.Parts.{IsControlBut}
-use Rattle.semantics_machine.specs.inner.Steps.{AreShared}
-use Rattle.semantics_machine.proofs.Lists.{by_place}
+use Rattle.semantics_machine.specs.{declared.control.Control.Control, inner.Parts.IsControlBut}
+use Rattle.semantics_machine.{specs.inner.Steps.AreShared, proofs.Lists.by_place}
 
 -- a thread joins at the end: its four bits are the lowest, and each of the others moves up
 queued_more : (n q x t : ℕ) → x / 2 ^ (4 * 0) % 16 ≡ t

@@ -1,36 +1,26 @@
 -- A run of a thread: what one more step makes of it.
+use Rattle.std.specs.Prelude.{All}
 use Rattle.std.proofs.Common.{◌≡◌, ◌≢◌, ℕ, ℤ, ◌+◌, ◌<◌, ◌≤◌, ◌*◌, ◌-◌, Bool, true, false, cond, List, ◌∷◌, length, take, replicate, slice_get, Some, get_or, refl, ap, ◌∙◌, sym, subst, arith, inl, inr, get_or-set_same, get_or-set_other, drop}
 use Rattle.std.proofs.lemmas.Bool.{cases_order, cases_lt}
 use Rattle.std.proofs.lemmas.List.{replicate_more, drop_more, drop_all, get_or_default}
-use Rattle.semantics_machine.proofs.Lists.{read_at}
-use Rattle.std.specs.Prelude.{All}
+use Rattle.semantics_machine.specs.Refinement.{HasObjects, HasThreadAt, IsControl}
+use Rattle.semantics_machine.specs.declared.control.Control.{Control}
+use Rattle.semantics_machine.specs.declared.control.steps.MovingThread.{MovingThread}
+use Rattle.semantics_machine.specs.{declared.machine.Run.Run, inner.LocalRuns.narrow}
+use Rattle.semantics_machine.specs.inner.{Parts.IsLeaving, Runs.{run_to, IsGoing, IsRunTo}}
+use Rattle.semantics_machine.specs.inner.Steps.{Faces, HasShared, IsReadyIn, IsPoised, IsPerformed, IsPassed, IsStepped, settled, place_after}
+use Rattle.semantics_machine.proofs.{Lists.read_at, LocalRuns.{passed, turned_on}, Objects.can_held}
+use Rattle.guest_code.specs.Program.{Program, code_of, IsValid, IsValidCode, LocalsBelow}
 use Rattle.guest_code.specs.declared.program.Instruction.{Instruction}
 use Rattle.guest_code.specs.declared.program.Instruction.TheVariants.{Set, Assert, SkipIfZero, Skip}
-use Rattle.guest_code.specs.Program.{Program, code_of, IsValid, IsValidCode, LocalsBelow}
-use Rattle.semantics.specs.declared.mask.Mask.{Mask}
-use Rattle.semantics.specs.declared.state.Thread.{Thread}
-use Rattle.semantics.specs.declared.state.Status.{Status}
-use Rattle.semantics.specs.declared.state.Status.TheVariants.{Running}
 use Rattle.semantics.specs.Machine.{Snapshot, step, is_enabled, thread_at, next_of, can_do, action_of, action_at, local_run, run_from, missing_thread}
-use Rattle.semantics.specs.Mask.{has, HasEnabled}
-use Rattle.semantics.specs.Reachable.{IsOf}
-use Rattle.semantics.proofs.StepsKeepStates.{step_is_of}
-use Rattle.semantics.proofs.WorkFalls.{enabled_below}
+use Rattle.semantics.specs.{Mask.{has, HasEnabled}, Reachable.IsOf, Turns.{turn_of, locals_after}}
+use Rattle.semantics.specs.declared.local.Turn.{Turn, TheVariants.{Runs, Ends}}
+use Rattle.semantics.specs.declared.mask.Mask.{Mask}
+use Rattle.semantics.specs.declared.state.{Status.Status, Status.TheVariants.Running, Thread.Thread}
+use Rattle.semantics.proofs.{StepsKeepStates.step_is_of, WorkFalls.enabled_below}
 use Rattle.semantics_schedules.specs.Schedules.{state_after}
 use Rattle.semantics_schedules.proofs.UnfoldingUnderPrefix.{state_after-push}
-use Rattle.semantics_machine.specs.declared.control.Control.{Control}
-use Rattle.semantics_machine.specs.declared.machine.Run.{Run}
-use Rattle.semantics_machine.specs.declared.control.steps.MovingThread.{MovingThread}
-use Rattle.semantics_machine.specs.Refinement.{HasObjects, HasThreadAt, IsControl}
-use Rattle.semantics_machine.specs.inner.LocalRuns.{narrow}
-use Rattle.semantics_machine.specs.inner.Parts.{IsLeaving}
-use Rattle.semantics_machine.specs.inner.Runs.{run_to, IsGoing, IsRunTo}
-use Rattle.semantics_machine.specs.inner.Steps.{Faces, HasShared, IsReadyIn, IsPoised, IsPerformed, IsPassed, IsStepped, settled, place_after}
-use Rattle.semantics_machine.proofs.LocalRuns.{passed, turned_on}
-use Rattle.semantics.specs.declared.local.Turn.{Turn}
-use Rattle.semantics.specs.declared.local.Turn.TheVariants.{Runs, Ends}
-use Rattle.semantics.specs.Turns.{turn_of, locals_after}
-use Rattle.semantics_machine.proofs.Objects.{can_held}
 
 pub run_more : (p : Program) (s : Snapshot) (t n : ℕ)
     → run_to p s t (n + 1) ≡ step p (run_to p s t n) t

@@ -1,23 +1,17 @@
 -- Who sleeps after a step.
 use Rattle.std.proofs.Common.{◌≡◌, ◌≢◌, ◌<◌, ℕ, Bool, true, false, not, ◌&&◌, ◌||◌, ◌⊎◌, nat_eq, nat_lt, List, [], length, map, get_or, Option, Some, None, Vec, Global, refl, ap, ◌∙◌, sym, arith, inl, inr}
+use Rattle.std.proofs.lemmas.Bool.{cases_order, Decides.nat_tests}
 use Rattle.std.proofs.lemmas.List.{get_or-map, length-map}
-use Rattle.std.proofs.lemmas.Bool.{cases_order}
-use Rattle.std.proofs.lemmas.Bool.Decides.{nat_tests}
 use Rattle.guest_code.specs.Program.{Program, code_of, no_thread}
-use Rattle.guest_code.specs.declared.program.Instruction.{Instruction}
-use Rattle.guest_code.specs.declared.program.Instruction.TheVariants.{Skip}
-use Rattle.semantics.specs.declared.state.Action.{Action}
-use Rattle.semantics.proofs.WorkFalls.{enabled_below}
+use Rattle.guest_code.specs.declared.program.Instruction.{Instruction, TheVariants.Skip}
 use Rattle.semantics.specs.Machine.{Snapshot, is_enabled, next_of, can_do}
-use Rattle.semantics.specs.declared.mask.Mask.{Mask}
-use Rattle.semantics.specs.Mask.{has}
+use Rattle.semantics.specs.{Mask.has, declared.mask.Mask.Mask, declared.state.Action.Action}
+use Rattle.semantics.proofs.WorkFalls.{enabled_below}
 use Rattle.semantics_schedules.specs.Sleep.{apart, independent, next_sleep_set}
 use Rattle.semantics_schedules.proofs.DependentSteps.{independent-itself}
+use Rattle.semantics_machine.specs.{Refinement.Shows, Touches.{touch_of, touches_at}}
+use Rattle.semantics_machine.specs.declared.{machine.Machine.Machine, touch.Touch.Touch}
 use Rattle.semantics_machine.proofs.Objects.{and_false, can_held}
-use Rattle.semantics_machine.specs.declared.machine.Machine.{Machine}
-use Rattle.semantics_machine.specs.declared.touch.Touch.{Touch}
-use Rattle.semantics_machine.specs.Touches.{touch_of, touches_at}
-use Rattle.semantics_machine.specs.Refinement.{Shows}
 use Rattle.semantics_machine.proofs.WholeSteps.{here_inside, here_next, here_retakes}
 
 -- the set of the enabled threads

@@ -1,18 +1,15 @@
 -- Steps that touch no object both, by the bits of what they touch.
 use Rattle.std.proofs.Common.{◌≡◌, ◌≢◌, ℕ, zero, suc, ◌^◌, Bool, true, false, not, cond, ◌&&◌, ◌||◌, nat_eq, min, max, List, [], ◌∷◌, Some, refl, ap, ◌∙◌, sym, arith, inl, inr}
+use Rattle.std.specs.Int.{bit_at, Bits.{bit_and, bit_or, and_self, and_zero_r, or_zero_r}}
 use Rattle.std.specs.List.{filter}
-use Rattle.std.specs.Int.{bit_at}
-use Rattle.std.specs.Int.Bits.{bit_and, bit_or, and_self, and_zero_r, or_zero_r}
-use Rattle.std.proofs.lemmas.Nat.{le_or_l, pow_pos}
+use Rattle.std.proofs.lemmas.{Bool.cases_order, Bool.Decides.nat_tests, Nat.{le_or_l, pow_pos}}
 use Rattle.std.proofs.lemmas.Nat.Bits.{bit_at_and, bit_at_or, bit_at-zero, bit_at-pow_other, same_from_bits}
-use Rattle.std.proofs.lemmas.Bool.{cases_order}
-use Rattle.std.proofs.lemmas.Bool.Decides.{nat_tests}
-use Rattle.semantics.specs.declared.state.Action.{Action}
 use Rattle.semantics.specs.Accesses.{Access, accesses}
 use Rattle.semantics.specs.Accesses.Access.{reads_var, writes_var, writes_mutex, writes_condition, writes_semaphore}
+use Rattle.semantics.specs.declared.state.Action.{Action}
 use Rattle.semantics_schedules.specs.Sleep.{conflict, conflicts_with_any, some_conflict, apart}
-use Rattle.semantics_machine.specs.declared.touch.Touch.{Touch}
 use Rattle.semantics_machine.specs.Touches.{bit_of, is_write, bits_of, touch_of}
+use Rattle.semantics_machine.specs.declared.touch.Touch.{Touch}
 
 -- whether two numbers have no bit in common
 abbrev pub disjoint : ℕ → ℕ → Bool

@@ -1,20 +1,18 @@
 -- The values of a machine, in one list: the variables, the queues, and then each thread's locals.
-use Rattle.std.proofs.Common.{◌≡◌, ◌≢◌, ℕ, ℤ, suc, ◌+◌, ◌-◌, ◌*◌, ◌<◌, ◌≤◌, Bool, true, ◌⊎◌, List, ◌++◌, pos, get_or, length, take, drop, refl, ap, ◌∙◌, sym, subst, arith, inl, inr}
 use Rattle.std.specs.Prelude.{All}
+use Rattle.std.proofs.Common.{◌≡◌, ◌≢◌, ℕ, ℤ, suc, ◌+◌, ◌-◌, ◌*◌, ◌<◌, ◌≤◌, Bool, true, ◌⊎◌, List, ◌++◌, pos, get_or, length, take, drop, refl, ap, ◌∙◌, sym, subst, arith, inl, inr}
+use Rattle.std.proofs.Math.{Nat.mul-le-mul_right, Seq.drop-append_seam}
 use Rattle.std.proofs.lemmas.Bool.{cases_order}
-use Rattle.std.proofs.Math.Nat.{mul-le-mul_right}
-use borrow.Rule.Slice.PartMut.{put_mid}
-use Rattle.std.proofs.Math.Seq.{drop-append_seam}
 use Rattle.std.proofs.lemmas.List.{drop-take, length-append, length-drop, length-take, length-take-le, take-take, take-append-le, get_or-take, get_or_append_left}
 use Rattle.std.proofs.lemmas.Slice.{take-put_mid_below, drop-put_mid, between-put_mid}
+use borrow.Rule.Slice.PartMut.{put_mid}
 use Rattle.guest_code.specs.Program.{Program, LocalsBelow, code_of, no_thread}
 use Rattle.semantics.specs.Machine.{Snapshot, thread_at, is_enabled}
 use Rattle.semantics.proofs.WorkFalls.{enabled_below}
-use Rattle.semantics_machine.specs.declared.control.Control.{Control}
 use Rattle.semantics_machine.specs.Refinement.{IsState, AreQueues, queued, locals_at}
-use Rattle.semantics_machine.specs.inner.Steps.{AreShared, HasShared, IsReadyIn}
+use Rattle.semantics_machine.specs.declared.{control.Control.Control, machine.Run.Run}
 use Rattle.semantics_machine.specs.inner.Runs.{run_to, IsRunTo}
-use Rattle.semantics_machine.specs.declared.machine.Run.{Run}
+use Rattle.semantics_machine.specs.inner.Steps.{AreShared, HasShared, IsReadyIn}
 
 -- thread t's part is in the list
 pub chunk_inside : (t n w L : ℕ) → t < n → L ≡ n * w → t * w + w ≤ L

@@ -1,24 +1,18 @@
 -- A whole step: who may take it, and what it makes of the state.
+use Rattle.std.specs.Prelude.{All}
 use Rattle.std.proofs.Common.{◌≡◌, ℕ, ℤ, ◌<◌, true, false, List, length, take, Option, Some, slice_get, get_or, set, refl, ap, ◌∙◌, sym, subst, arith, get_or-set_same, get_or-set_other}
 use Rattle.std.proofs.Math.Path.{transport}
-use Rattle.std.specs.Prelude.{All}
 use Rattle.guest_code.specs.Program.{Program, code_of, IsValid, LocalsBelow}
 use Rattle.guest_code.specs.declared.program.Instruction.{Instruction}
-use Rattle.semantics.specs.declared.state.Thread.{Thread}
-use Rattle.semantics.specs.declared.state.Status.{Status}
-use Rattle.semantics.specs.declared.state.Status.TheVariants.{Running, Woken}
 use Rattle.semantics.specs.Machine.{Snapshot, thread_at, next_of, is_enabled, can_do, action_of, action_at, retake_of, step, missing_thread}
-use Rattle.semantics.specs.Mask.{has}
+use Rattle.semantics.specs.{Mask.has, Turns.own_thread, declared.local.Landing.Landing}
+use Rattle.semantics.specs.declared.state.Status.{Status, TheVariants.{Running, Woken}}
+use Rattle.semantics.{specs.declared.state.Thread.Thread, proofs.StandingThreads.enabled_stands}
 use Rattle.semantics.proofs.WorkFalls.{enabled_below}
-use Rattle.semantics.proofs.StandingThreads.{enabled_stands}
-use Rattle.semantics_machine.specs.declared.control.Control.{Control}
-use Rattle.semantics.specs.declared.local.Landing.{Landing}
 use Rattle.semantics_machine.specs.Refinement.{is_woken, IsControl}
-use Rattle.semantics.specs.Turns.{own_thread}
-use Rattle.semantics_machine.specs.inner.LocalRuns.{narrow}
+use Rattle.semantics_machine.specs.{declared.control.Control.Control, inner.LocalRuns.narrow}
 use Rattle.semantics_machine.specs.inner.Steps.{AreShared, IsPoised, IsPerformed, IsStepped, IsReadyIn, settled}
-use Rattle.semantics_machine.proofs.Lists.{read_at}
-use Rattle.semantics_machine.proofs.Objects.{leaving}
+use Rattle.semantics_machine.proofs.{Lists.read_at, Objects.leaving}
 
 -- where an enabled thread is
 

@@ -2,23 +2,19 @@
 use Rattle.std.specs.Prelude.{◌≡◌, ℕ, zero, suc, ◌+◌, ◌*◌, ◌^◌, ◌/◌, ◌%◌, ◌<◌, ℤ, pos, Bool, true, false, not, nat_eq, List, [], ◌∷◌, length, take, drop, slice_get, slice_index_or, All, Option, Some, None, if◌then◌else◌}
 use Rattle.std.specs.Int.{cast_unsigned, w64}
 use Rattle.guest_code.specs.Program.{Program, code_of, LocalsBelow}
-use Rattle.semantics.specs.declared.mask.Mask.{Mask}
-use Rattle.semantics.specs.declared.state.Thread.{Thread}
-use Rattle.semantics.specs.declared.state.Status.{Status}
-use Rattle.semantics.specs.declared.state.Status.TheVariants.{Running, Waiting, Woken, Ended, Stopped}
-use Rattle.semantics.specs.declared.state.MutexAction.TheVariants.{Lock as Locks, Unlock as Unlocks, Retake as Retakes}
-use Rattle.semantics.specs.declared.state.SemaphoreAction.TheVariants.{Acquire as Acquires, Release as Releases}
+use Rattle.semantics.specs.Ends.{is_stopped, is_ended}
+use Rattle.semantics.specs.Machine.{Snapshot, thread_at, can_do, action_at}
+use Rattle.semantics.specs.{Mask.{has, no_threads}, Reachable.IsOf, declared.mask.Mask.Mask}
 use Rattle.semantics.specs.declared.state.Action.{Action}
 use Rattle.semantics.specs.declared.state.Action.TheVariants.{OnVariable, OnMutex, Wait as Waits, OnCondition, OnSemaphore}
-use Rattle.semantics.specs.Machine.{Snapshot, thread_at, can_do, action_at}
-use Rattle.semantics.specs.Mask.{has, no_threads}
-use Rattle.semantics.specs.Ends.{is_stopped, is_ended}
-use Rattle.semantics.specs.Reachable.{IsOf}
-use Rattle.semantics_machine.specs.declared.control.Control.{Control}
-use Rattle.semantics_machine.specs.declared.control.TheConstants.{FREE}
-use Rattle.semantics_machine.specs.declared.machine.Machine.{Machine}
+use Rattle.semantics.specs.declared.state.MutexAction.TheVariants.{Lock as Locks, Unlock as Unlocks, Retake as Retakes}
+use Rattle.semantics.specs.declared.state.SemaphoreAction.TheVariants.{Acquire as Acquires, Release as Releases}
+use Rattle.semantics.specs.declared.state.Status.{Status}
+use Rattle.semantics.specs.declared.state.Status.TheVariants.{Running, Waiting, Woken, Ended, Stopped}
+use Rattle.semantics.specs.declared.state.Thread.{Thread}
+use Rattle.semantics_machine.specs.{Touches.AreTouches, declared.control.Control.Control}
+use Rattle.semantics_machine.specs.declared.{control.TheConstants.FREE, machine.Machine.Machine}
 use Rattle.semantics_machine.specs.declared.machine.Shape.{Shape}
-use Rattle.semantics_machine.specs.Touches.{AreTouches}
 
 -- the step takes mutex m
 abbrev pub takes_mutex : ℕ → Option Action → Bool

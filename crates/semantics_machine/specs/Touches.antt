@@ -1,19 +1,13 @@
 -- What the steps of a program touch, as numbers: a bit for each object.
 use Rattle.std.specs.Prelude.{◌≡◌, ℕ, ◌+◌, ◌*◌, ◌^◌, ◌<◌, Bool, true, false, nat_lt, List, [], ◌∷◌, map, slice_index_or, Option, Some, None}
-use Rattle.std.specs.List.{filter}
-use Rattle.std.specs.Int.Bits.{bit_or}
-use Rattle.guest_code.specs.declared.limits.TheConstants.{THREADS}
+use Rattle.std.specs.{Int.Bits.bit_or, List.filter}
+use Rattle.guest_code.specs.{Program.Program, declared.limits.TheConstants.THREADS}
 use Rattle.guest_code.specs.declared.program.Instruction.{Instruction}
-use Rattle.guest_code.specs.Program.{Program}
-use Rattle.semantics.specs.declared.state.Action.{Action}
-use Rattle.semantics.specs.declared.state.Status.TheVariants.{Running, Woken}
 use Rattle.semantics.specs.Accesses.{Access, accesses}
 use Rattle.semantics.specs.Accesses.Access.{reads_var, writes_var, writes_mutex, writes_condition, writes_semaphore}
-use Rattle.semantics.specs.Actions.{action_at}
-use Rattle.semantics.specs.declared.mask.Mask.{Mask}
-use Rattle.semantics.specs.Mask.{has, no_threads}
-use Rattle.semantics_machine.specs.declared.touch.Touch.{Touch}
-use Rattle.semantics_machine.specs.declared.touch.Touches.{Touches}
+use Rattle.semantics.specs.{Actions.action_at, Mask.{has, no_threads}, declared.mask.Mask.Mask}
+use Rattle.semantics.specs.declared.state.{Action.Action, Status.TheVariants.{Running, Woken}}
+use Rattle.semantics_machine.specs.declared.touch.{Touch.Touch, Touches.Touches}
 
 -- the number of an object's bit
 abbrev pub bit_of : Access → ℕ

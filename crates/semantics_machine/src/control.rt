@@ -2,17 +2,16 @@
 
 ghost use Rattle.std.specs.Prelude.{◌≡◌, ◌≢◌, ◌^◌, ◌<◌, ◌≤◌, ◌∷◌, [], ◌+◌, ◌-◌, ℕ, ◌++◌, drop, nat_lt, false, length, slice_get, slice_index_or, slice_set, Some, None};
 ghost use Rattle.guest_code.specs.Program.{Program, IsValid, IsValidCode, IsWellFormed, code_of};
-ghost use Rattle.semantics.specs.declared.state.Thread.{Thread};
-ghost use Rattle.semantics.specs.declared.state.Status.TheVariants.{Waiting, Woken};
+ghost use Rattle.semantics.specs.Machine.{Snapshot, queue_of, count_of, thread_at, start, action_of, action_at, retake_of, with_status};
+ghost use Rattle.semantics.specs.Mask.{has, HasEnabled};
 ghost use Rattle.semantics.specs.declared.state.Action.TheVariants.{OnMutex, OnSemaphore};
 ghost use Rattle.semantics.specs.declared.state.MutexAction.{MutexAction};
 ghost use Rattle.semantics.specs.declared.state.SemaphoreAction.TheVariants.{Acquire as Acquires};
-ghost use Rattle.semantics.specs.Machine.{Snapshot, queue_of, count_of, thread_at, start, action_of, action_at, retake_of, with_status};
-ghost use Rattle.semantics.specs.Mask.{has, HasEnabled};
+ghost use Rattle.semantics.specs.declared.state.Status.TheVariants.{Waiting, Woken};
+ghost use Rattle.semantics.specs.declared.state.Thread.{Thread};
 ghost use Rattle.semantics_machine.specs.Refinement.{queued, IsControl, HasObjects};
-ghost use Rattle.semantics_machine.specs.inner.LocalRuns.{IsLandingOf};
+ghost use Rattle.semantics_machine.specs.inner.{LocalRuns.IsLandingOf, Opening.IsOpenedTo};
 ghost use Rattle.semantics_machine.specs.inner.Parts.{IsLeaving, IsFreeIn, IsIdle, IsApart, IsControlBut, IsMarked, Stands, Lands, IsTaking};
-ghost use Rattle.semantics_machine.specs.inner.Opening.{IsOpenedTo};
 
 mod steps;
 

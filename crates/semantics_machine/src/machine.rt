@@ -3,15 +3,12 @@
 ghost use Rattle.std.specs.Prelude.{◌≡◌, ◌<◌, ◌≤◌, ◌+◌, ◌*◌, ◌&&◌, ◌||◌, ◌≢◌, nat_lt, ℕ, replicate, true, false, length, All, IfOk, OnOk, IsTrue, IsFalse};
 ghost use Rattle.guest_code.specs.Program.{Program, LocalsBelow};
 ghost use Rattle.guest_code.specs.declared.limits.TheConstants.{THREADS, INSTRUCTIONS};
-ghost use Rattle.semantics.specs.Mask.{HasEnabled, has, mask_of};
 ghost use Rattle.semantics.specs.Ends.{final_kind};
-ghost use Rattle.semantics_schedules.specs.Schedules.{state_after};
-ghost use Rattle.semantics_schedules.specs.Sleep.{next_sleep_set};
-ghost use Rattle.semantics.specs.Reachable.{IsOf};
 ghost use Rattle.semantics.specs.Machine.{Snapshot, start, step, is_enabled, next_of};
+ghost use Rattle.semantics.specs.{Mask.{HasEnabled, has, mask_of}, Reachable.IsOf};
+ghost use Rattle.semantics_schedules.specs.{Schedules.state_after, Sleep.next_sleep_set};
+ghost use Rattle.semantics_machine.specs.{Refinement.Shows, Touches.{touch_of, AreBefore}};
 ghost use Rattle.semantics_machine.specs.declared.machine.Machine.{Machine};
-ghost use Rattle.semantics_machine.specs.Touches.{touch_of, AreBefore};
-ghost use Rattle.semantics_machine.specs.Refinement.{Shows};
 ghost use Rattle.semantics_machine.specs.inner.Opening.{IsOpening};
 
 use crate::control::Control;

@@ -4,9 +4,8 @@ ghost use Rattle.std.specs.Prelude.{◌≡◌, ◌<◌, ◌^◌, length, map, If
 ghost use Rattle.std.specs.Int.Bits.{bit_or};
 ghost use Rattle.guest_code.specs.Program.{Program, IsWellFormed, IsValid, code_of};
 ghost use Rattle.guest_code.specs.declared.limits.TheConstants.{VARIABLES};
-ghost use Rattle.semantics.specs.declared.state.Action.{Action};
+ghost use Rattle.semantics.specs.{Reachable.IsValidAction, declared.state.Action.Action};
 ghost use Rattle.semantics.specs.declared.state.Action.TheVariants.{OnVariable};
-ghost use Rattle.semantics.specs.Reachable.{IsValidAction};
 ghost use Rattle.semantics_schedules.specs.Sleep.{apart};
 ghost use Rattle.semantics_machine.specs.Touches.{touch_of, touches_at, AreBefore, AreTouches};
 

@@ -1,14 +1,11 @@
 -- The local runs of two threads that branch, by computing them.
 use Rattle.std.proofs.Common.{◌≡◌, pos, [], ◌∷◌, refl}
-use Rattle.semantics.specs.declared.state.Stop.TheVariants.{Assert as FailedAssert}
+use Rattle.semantics.specs.{Ends.enabled, Machine.{start, thread_at}, Work.work}
 use Rattle.semantics.specs.declared.state.Status.TheVariants.{Ended, Stopped}
+use Rattle.semantics.specs.declared.state.Stop.TheVariants.{Assert as FailedAssert}
 use Rattle.semantics.specs.declared.view.Kind.TheVariants.{Failed}
-use Rattle.semantics.specs.Machine.{start, thread_at}
-use Rattle.semantics.specs.Work.{work}
+use Rattle.semantics_schedules.specs.{Branches.{branches, IsAt}, Order.end_of}
 use Rattle.semantics_schedules.specs.Schedules.{complete_schedules}
-use Rattle.semantics.specs.Ends.{enabled}
-use Rattle.semantics_schedules.specs.Order.{end_of}
-use Rattle.semantics_schedules.specs.Branches.{branches, IsAt}
 
 pub taken_branch : IsAt (thread_at (start branches) 0) 6 Ended (pos 7)
 taken_branch = record { pc = refl; status = refl; q = refl }

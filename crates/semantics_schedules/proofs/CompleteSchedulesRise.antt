@@ -1,22 +1,17 @@
 -- The list of all complete schedules rises, holds each once, and none of them begins another.
 use Rattle.std.proofs.Common.{◌≡◌, ℕ, zero, suc, ◌<◌, ◌≤◌, ◌⊎◌, inl, inr, Bool, true, false, cond, nat_eq, List, [], ◌∷◌, ◌++◌, length, get_or, refl, sym, arith, subst}
-use Rattle.std.specs.List.{filter, flat_map}
-use Rattle.std.proofs.lemmas.Bool.{and_parts, cases_order}
+use Rattle.std.{specs.List.{filter, flat_map}, proofs.lemmas.Bool.{and_parts, cases_order}}
 use Rattle.guest_code.specs.Program.{Program}
-use Rattle.semantics.specs.Machine.{Snapshot, step, is_enabled}
-use Rattle.semantics.specs.Work.{up_from, work}
-use Rattle.semantics_schedules.specs.Schedules.{before, complete_schedules, begins_with}
 use Rattle.semantics.specs.Ends.{enabled, is_terminal}
-use Rattle.semantics_schedules.specs.Order.{is_complete}
-use Rattle.semantics.specs.Waiters.{In}
-use Rattle.semantics_schedules.specs.Rising.{IsRising, HasEachOnce, IsPrefixFree}
-use Rattle.semantics.proofs.WorkFalls.{work-step}
-use Rattle.semantics.proofs.TerminalStates.{is_terminal-some}
-use Rattle.semantics_schedules.proofs.UnfoldingUnderPrefix.{complete_schedules-more, complete_schedules-terminal}
+use Rattle.semantics.specs.{Machine.{Snapshot, step, is_enabled}, Waiters.In, Work.{up_from, work}}
 use Rattle.semantics.proofs.ListMembers.{at_in, in_either, from_map, contains_in}
-use Rattle.semantics_schedules.proofs.SleepSets.{Before}
-use Rattle.semantics_schedules.proofs.SleepSets.Before.{lower, after_same}
+use Rattle.semantics.proofs.{TerminalStates.is_terminal-some, WorkFalls.work-step}
+use Rattle.semantics_schedules.specs.Order.{is_complete}
+use Rattle.semantics_schedules.specs.Rising.{IsRising, HasEachOnce, IsPrefixFree}
+use Rattle.semantics_schedules.specs.Schedules.{before, complete_schedules, begins_with}
 use Rattle.semantics_schedules.proofs.ReducedSchedules.{before_precedes, not_before, eq_of, in_all}
+use Rattle.semantics_schedules.proofs.SleepSets.{Before, Before.{lower, after_same}}
+use Rattle.semantics_schedules.proofs.UnfoldingUnderPrefix.{complete_schedules-more, complete_schedules-terminal}
 
 -- each comes before those after it, by recursion
 abbrev pub Rises : List (List ℕ) → Type 0

@@ -2,11 +2,9 @@
 use Rattle.std.proofs.Common.{◌≡◌, ℕ, zero, suc, ◌<◌, ◌≤◌, Bool, true, false, cond, List, [], ◌∷◌, ◌++◌, length, refl, ap, ◌∙◌, sym, arith}
 use Rattle.std.specs.List.{filter, flat_map}
 use Rattle.guest_code.specs.Program.{Program}
-use Rattle.semantics.specs.Machine.{Snapshot, step, is_enabled}
-use Rattle.semantics.specs.Ends.{enabled}
-use Rattle.semantics.specs.Work.{up_from, work}
+use Rattle.semantics.specs.{Ends.enabled, Machine.{Snapshot, step, is_enabled}}
+use Rattle.semantics.{specs.Work.{up_from, work}, proofs.WorkFalls.work-step}
 use Rattle.semantics_schedules.specs.Schedules.{before, or_complete, schedules_cut_at, complete_schedules}
-use Rattle.semantics.proofs.WorkFalls.{work-step}
 
 -- two functions that agree on what passes make the same of a filter
 pub flat_map-filter_same : {A B : Type 0} (test : A → Bool) (f g : A → List B) (xs : List A)

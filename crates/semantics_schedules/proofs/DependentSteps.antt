@@ -1,21 +1,17 @@
 -- Dependent steps have an object that both access and one of them writes.
 use Rattle.std.proofs.Common.{◌≡◌, ◌≢◌, ◌↔◌, ◌⊎◌, inl, inr, ℕ, Bool, true, false, not, ◌&&◌, nat_eq, List, [], ◌∷◌, None, refl, ap, ◌∙◌, sym, subst, arith}
-use Rattle.std.specs.List.{Contains}
-use Rattle.std.proofs.lemmas.Bool.{or_cases, or_left, or_right}
+use Rattle.std.{specs.List.Contains, proofs.lemmas.Bool.{or_cases, or_left, or_right}}
 use Rattle.std.proofs.lemmas.Bool.Decides.{nat_tests}
 use Rattle.guest_code.specs.Program.{Program}
-use Rattle.semantics.specs.declared.state.VariableAction.TheVariants.{Load as Loads}
-use Rattle.semantics.specs.declared.state.Action.{Action}
-use Rattle.semantics.specs.declared.state.Action.TheVariants.{OnVariable}
-use Rattle.semantics.specs.Machine.{Snapshot, next_of}
-use Rattle.semantics.specs.Waiters.{In}
 use Rattle.semantics.specs.Accesses.{Access, accesses, Object, write_of, Writes}
-use Rattle.semantics_schedules.specs.Sleep.{conflict, conflicts_with_any, some_conflict, apart, independent}
 use Rattle.semantics.specs.Accesses.Access.{reads_var, writes_var, writes_mutex, writes_condition, writes_semaphore}
-use Rattle.semantics_schedules.specs.Dependence.{object_of, Accesses, ConflictOn}
-use Rattle.semantics.specs.Effects.{IsAboutTo}
 use Rattle.semantics.specs.Accesses.Object.{variable, mutex, condition, semaphore}
+use Rattle.semantics.specs.{Effects.IsAboutTo, Machine.{Snapshot, next_of}, Waiters.In}
+use Rattle.semantics.specs.declared.state.Action.{Action, TheVariants.OnVariable}
+use Rattle.semantics.specs.declared.state.VariableAction.TheVariants.{Load as Loads}
 use Rattle.semantics.proofs.ListMembers.{in_contains, contains_in}
+use Rattle.semantics_schedules.specs.Dependence.{object_of, Accesses, ConflictOn}
+use Rattle.semantics_schedules.specs.Sleep.{conflict, conflicts_with_any, some_conflict, apart, independent}
 
 eq_of : (t u : ℕ) → nat_eq t u ≡ true → t ≡ u
 eq_of t u h = grind (arith, nat_tests, h)

@@ -1,28 +1,24 @@
 -- Of equal threads only the lowest has to be tried: the schedules that are left represent all.
-use Rattle.std.specs.Cmp.{both_ways}
-use Rattle.std.specs.List.{filter, flat_map, list_any}
 use Rattle.std.proofs.Common.{◌≡◌, ◌⊎◌, inl, inr, ℕ, ◌+◌, Bool, true, false, not, ◌&&◌, nat_le, nat_lt, List, [], ◌∷◌, Option, Some, None, refl, ap, ◌∙◌, sym}
+use Rattle.std.specs.{Cmp.both_ways, List.{filter, flat_map, list_any}}
 use Rattle.std.proofs.lemmas.Bool.{and_parts, and_from}
 use Rattle.guest_code.specs.Program.{Program}
-use Rattle.semantics.specs.Machine.{Snapshot, step, is_enabled}
-use Rattle.semantics.specs.Mask.{one_if}
 use Rattle.semantics.specs.Ends.{enabled, is_terminal, view_at}
-use Rattle.semantics.specs.View.{View}
+use Rattle.semantics.specs.{Machine.{Snapshot, step, is_enabled}, Mask.one_if, View.View}
 use Rattle.semantics.specs.Waiters.{In}
 use Rattle.semantics.proofs.ListMembers.{in_contains, contains_in, in_filter, from_filter}
-use Rattle.semantics_schedules.specs.Schedules.{before, complete_schedules, preempts, preemptions_from}
-use Rattle.semantics_schedules.specs.Order.{is_complete, end_from}
-use Rattle.semantics_schedules.specs.Sleep.{is_kept, next_sleep_set, reduced_schedules, none_asleep}
-use Rattle.semantics_schedules.specs.Represents.{Represents, RepresentsWithin}
 use Rattle.semantics_schedules.specs.EqualThreads.{Hiding, HidesEqual, HidesOthers, EndsEarlier, EndsEarlierWithin, EndsAsleep, hides_equal, is_hidden, is_unhidden, complete_once, reduced_once}
+use Rattle.semantics_schedules.specs.Order.{is_complete, end_from}
+use Rattle.semantics_schedules.specs.Represents.{Represents, RepresentsWithin}
+use Rattle.semantics_schedules.specs.Schedules.{before, complete_schedules, preempts, preemptions_from}
+use Rattle.semantics_schedules.specs.Sleep.{is_kept, next_sleep_set, reduced_schedules, none_asleep}
+use Rattle.semantics_schedules.proofs.HiddenThreads.{hidden_is}
+use Rattle.semantics_schedules.proofs.ReducedSchedules.{before_precedes, schedules_cut_at, in_all, any_in, in_any, in_red, KeptOrEarlier, Stays, stays, MetBy, represents, reduced_represent}
 use Rattle.semantics_schedules.proofs.SleepSets.{MeetsHidden, Kept, sleep_law, first_steps, reduced_schedules-more, reduced_schedules-terminal}
 use Rattle.semantics_schedules.proofs.SleepSets.Before.{after_same}
 use Rattle.semantics_schedules.proofs.SleepSets.Kept.{left, earlier, asleep_first}
+use Rattle.semantics_schedules.proofs.{StatedLaws.stated, SwappedThreads.{Earlier, met_earlier}}
 use Rattle.semantics_schedules.proofs.UnfoldingUnderPrefix.{complete_schedules-more, complete_schedules-terminal}
-use Rattle.semantics_schedules.proofs.ReducedSchedules.{before_precedes, schedules_cut_at, in_all, any_in, in_any, in_red, KeptOrEarlier, Stays, stays, MetBy, represents, reduced_represent}
-use Rattle.semantics_schedules.proofs.StatedLaws.{stated}
-use Rattle.semantics_schedules.proofs.SwappedThreads.{Earlier, met_earlier}
-use Rattle.semantics_schedules.proofs.HiddenThreads.{hidden_is}
 
 -- any hiding of threads for which others stand
 

@@ -2,12 +2,11 @@
 use Rattle.std.proofs.Common.{◌≡◌, ℕ, zero, suc, ◌+◌, ◌<◌, ◌≤◌, Bool, true, false, List, [], ◌∷◌, ◌++◌, length, take, get_or, Option, None, Some, refl, ap, ◌∙◌, sym, subst, arith}
 use Rattle.std.specs.Int.{from_bool}
 use Rattle.guest_code.specs.Program.{Program}
-use Rattle.semantics.specs.Machine.{Snapshot, start, step, is_enabled}
-use Rattle.semantics_schedules.specs.Schedules.{state_after, runs, preempts, preemptions_from}
-use Rattle.semantics.specs.Mask.{one_if}
+use Rattle.semantics.specs.{Machine.{Snapshot, start, step, is_enabled}, Mask.one_if}
 use Rattle.semantics_schedules.specs.Execution.{ExecutionView, Reaches, stepped}
-use Rattle.semantics_schedules.proofs.UnfoldingUnderPrefix.{and_true, runs-push, state_after-push, preemptions-push}
+use Rattle.semantics_schedules.specs.Schedules.{state_after, runs, preempts, preemptions_from}
 use Rattle.semantics_schedules.proofs.PrefixesExtend.{last_of-push}
+use Rattle.semantics_schedules.proofs.UnfoldingUnderPrefix.{and_true, runs-push, state_after-push, preemptions-push}
 
 pub from_bool_is : (b : Bool) → from_bool b ≡ one_if b
 from_bool_is true = refl

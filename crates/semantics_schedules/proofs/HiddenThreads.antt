@@ -1,27 +1,26 @@
 -- The tests find the equal threads, and those for which another one stands.
 use Rattle.std.specs.Prelude.{option_map}
+use Rattle.std.proofs.Common.{◌≡◌, ◌≢◌, ◌↔◌, ℕ, ◌<◌, Bool, true, false, not, nat_eq, List, map, Option, Some, None, refl, ap, ◌∙◌, sym, subst}
 use Rattle.std.specs.Bool.{Decides}
 use Rattle.std.specs.Cmp.{IsEquivalence, unsigned_Decides, signed_Decides, nat_eq_equiv}
 use Rattle.std.specs.Cmp.Lexicographic.{pointwise_decides, bytes_decides, options_equiv}
 use Rattle.std.specs.Option.{option_eq}
-use Rattle.std.proofs.Common.{◌≡◌, ◌≢◌, ◌↔◌, ℕ, ◌<◌, Bool, true, false, not, nat_eq, List, map, Option, Some, None, refl, ap, ◌∙◌, sym, subst}
 use Rattle.std.proofs.lemmas.Bool.{false≢true, eqb-false, ne_eqb, and_parts, and_from, or_parts, or_from, not-true}
 use Rattle.std.proofs.lemmas.Bool.Decides.{Decides-and, Decides-like, Decides-below_or}
+use Rattle.guest_code.specs.{Program.{Program, code_of}, Same.same_instruction}
 use Rattle.guest_code.specs.contracts.program.InstructionEq.TheImpl.Laws.{laws-law as instruction-laws}
-use Rattle.guest_code.specs.Program.{Program, code_of}
-use Rattle.guest_code.specs.Same.{same_instruction}
 use Rattle.guest_code.proofs.InstructionEquality.{instruction_is}
-use Rattle.semantics.specs.declared.state.Stop.{Stop}
-use Rattle.semantics.specs.declared.state.Stop.TheVariants.{Assert as FailedAssert, NotHeld, SemFull}
+use Rattle.semantics.specs.Machine.{Snapshot, is_enabled, thread_at}
+use Rattle.semantics.specs.contracts.state.StatusEq.TheImpl.Laws.{laws-law as status-laws}
+use Rattle.semantics.specs.contracts.state.StatusPartialEq.TheImpl.{eq-value as same-status}
+use Rattle.semantics.specs.contracts.state.StopPartialEq.TheImpl.{eq-value as same-stop}
 use Rattle.semantics.specs.declared.state.Status.{Status}
 use Rattle.semantics.specs.declared.state.Status.TheVariants.{Running, Waiting, Woken, Ended, Stopped}
+use Rattle.semantics.specs.declared.state.Stop.{Stop}
+use Rattle.semantics.specs.declared.state.Stop.TheVariants.{Assert as FailedAssert, NotHeld, SemFull}
 use Rattle.semantics.specs.declared.state.Thread.{Thread}
-use Rattle.semantics.specs.contracts.state.StopPartialEq.TheImpl.{eq-value as same-stop}
-use Rattle.semantics.specs.contracts.state.StatusPartialEq.TheImpl.{eq-value as same-status}
-use Rattle.semantics.specs.contracts.state.StatusEq.TheImpl.Laws.{laws-law as status-laws}
-use Rattle.semantics.specs.Machine.{Snapshot, is_enabled, thread_at}
-use Rattle.semantics_schedules.specs.Renaming.{swapped}
 use Rattle.semantics_schedules.specs.EqualThreads.{AreEqual, StandsFor, have_same_code, stand_alike, are_equal, is_last, any_below, is_stand_in, is_hidden}
+use Rattle.semantics_schedules.specs.Renaming.{swapped}
 use Rattle.semantics_schedules.proofs.SwappedThreads.{swapped_first, swap_keeps}
 
 -- what derived tests tell

@@ -2,14 +2,11 @@
 -- them.
 use Rattle.std.proofs.Common.{◌≡◌, pos, [], ◌∷◌, map, filter, take, None, refl}
 use Rattle.std.specs.Int.{int_wrap}
-use Rattle.semantics.specs.Machine.{start}
-use Rattle.semantics.specs.Work.{work}
-use Rattle.semantics_schedules.specs.Schedules.{complete_schedules, preemptions}
-use Rattle.semantics.specs.Ends.{enabled, is_terminal}
-use Rattle.semantics_schedules.specs.Order.{end_of}
-use Rattle.semantics_schedules.specs.Sleep.{reduced_schedules, independent, none_asleep}
+use Rattle.semantics.specs.{Ends.{enabled, is_terminal}, Machine.start, Work.work}
 use Rattle.semantics_schedules.specs.EqualThreads.{are_equal, is_hidden, is_unhidden, hides_equal, complete_once}
 use Rattle.semantics_schedules.specs.Increments.{increments, six_schedules, four_schedules, done_with}
+use Rattle.semantics_schedules.specs.{Order.end_of, Schedules.{complete_schedules, preemptions}}
+use Rattle.semantics_schedules.specs.Sleep.{reduced_schedules, independent, none_asleep}
 
 pub six_complete : complete_schedules increments (start increments) ≡ six_schedules
 unfolding complete_schedules work enabled int_wrap

@@ -1,28 +1,24 @@
 -- Independent steps commute.
 use Rattle.std.proofs.Common.{◌≡◌, ◌≢◌, ℕ, pos, zero, suc, ◌+◌, Bool, true, false, not, cond, ◌&&◌, ◌||◌, nat_eq, List, [], ◌∷◌, Option, Some, None, slice_get, get_or, set, refl, ap, ◌∙◌, sym, arith, get_or-set_other, drop}
-use Rattle.std.proofs.lemmas.List.{set_comm, set-get_or}
-use Rattle.std.proofs.lemmas.Bool.Decides.{nat_tests}
-use Rattle.std.proofs.lemmas.Bool.{and_parts}
-use Rattle.guest_code.specs.declared.program.Instruction.{Instruction}
+use Rattle.std.proofs.lemmas.{Bool.and_parts, Bool.Decides.nat_tests, List.{set_comm, set-get_or}}
+use Rattle.guest_code.specs.{Program.{Program, code_of}, declared.program.Instruction.Instruction}
 use Rattle.guest_code.specs.declared.program.Instruction.TheVariants.{Set, Assert, SkipIfZero, Skip}
-use Rattle.semantics.specs.declared.state.Stop.TheVariants.{Assert as FailedAssert, NotHeld, SemFull}
-use Rattle.semantics.specs.declared.state.Status.TheVariants.{Running, Waiting, Woken, Stopped}
-use Rattle.semantics.specs.declared.state.Thread.{Thread}
-use Rattle.semantics.specs.declared.state.VariableAction.{VariableAction}
-use Rattle.semantics.specs.declared.state.VariableAction.TheVariants.{Load as Loads}
+use Rattle.semantics.specs.Accesses.{Access, access_of, accesses}
+use Rattle.semantics.specs.Accesses.Access.{reads_var, writes_var, writes_mutex, writes_condition, writes_semaphore}
+use Rattle.semantics.specs.Machine.{Snapshot, local_run, advance, with_local, with_status, resumed, acts, step, is_enabled, can_do, next_of, action_at, thread_at, missing_thread, value_of_expression, is_zero, wake, woken, woken_status, threads_to_wake, queue_after, queue_joined, given_back, value_of, owner_of, queue_of, count_of, owns, is_full, var_after, reader_after, mutex_allows, sem_allows, owner_after, taker_after, waiter_after, count_after, counter_after}
+use Rattle.semantics.specs.declared.state.Action.{Action}
+use Rattle.semantics.specs.declared.state.Action.TheVariants.{OnVariable, OnMutex, Wait as Waits, OnCondition, OnSemaphore}
 use Rattle.semantics.specs.declared.state.MutexAction.{MutexAction}
 use Rattle.semantics.specs.declared.state.MutexAction.TheVariants.{Lock as Locks, Unlock as Unlocks, Retake as Retakes}
 use Rattle.semantics.specs.declared.state.SemaphoreAction.{SemaphoreAction}
 use Rattle.semantics.specs.declared.state.SemaphoreAction.TheVariants.{Acquire as Acquires, Release as Releases}
-use Rattle.semantics.specs.declared.state.Action.{Action}
-use Rattle.semantics.specs.declared.state.Action.TheVariants.{OnVariable, OnMutex, Wait as Waits, OnCondition, OnSemaphore}
-use Rattle.guest_code.specs.Program.{Program, code_of}
-use Rattle.semantics.specs.Machine.{Snapshot, local_run, advance, with_local, with_status, resumed, acts, step, is_enabled, can_do, next_of, action_at, thread_at, missing_thread, value_of_expression, is_zero, wake, woken, woken_status, threads_to_wake, queue_after, queue_joined, given_back, value_of, owner_of, queue_of, count_of, owns, is_full, var_after, reader_after, mutex_allows, sem_allows, owner_after, taker_after, waiter_after, count_after, counter_after}
-use Rattle.semantics.specs.Accesses.{Access, access_of, accesses}
-use Rattle.semantics_schedules.specs.Sleep.{conflict, conflicts_with_any, some_conflict, apart, independent, CommutesWith}
-use Rattle.semantics.specs.Accesses.Access.{reads_var, writes_var, writes_mutex, writes_condition, writes_semaphore}
+use Rattle.semantics.specs.declared.state.Status.TheVariants.{Running, Waiting, Woken, Stopped}
+use Rattle.semantics.specs.declared.state.Stop.TheVariants.{Assert as FailedAssert, NotHeld, SemFull}
+use Rattle.semantics.specs.declared.state.{Thread.Thread, VariableAction.VariableAction}
+use Rattle.semantics.specs.declared.state.VariableAction.TheVariants.{Load as Loads}
 use Rattle.semantics.proofs.Waking.{wake-get, wake-set, wake-wake, woken_same, thread_awake}
 use Rattle.semantics.proofs.WorkFalls.{Moves, moves}
+use Rattle.semantics_schedules.specs.Sleep.{conflict, conflicts_with_any, some_conflict, apart, independent, CommutesWith}
 
 differ : (t v : ℕ) → nat_eq t v ≡ false → t ≢ v
 differ t v h = grind (arith, nat_tests, h)

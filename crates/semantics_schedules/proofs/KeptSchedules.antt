@@ -1,13 +1,11 @@
 -- The reduced schedules are the complete ones that are kept.
 use Rattle.std.proofs.Common.{◌≡◌, ◌↔◌, ℕ, Bool, true, not, ◌&&◌, List, [], ◌∷◌}
-use Rattle.std.specs.List.{Contains, filter}
-use Rattle.std.proofs.lemmas.Bool.{and_parts, and_from}
+use Rattle.std.{specs.List.{Contains, filter}, proofs.lemmas.Bool.{and_parts, and_from}}
 use Rattle.guest_code.specs.Program.{Program}
 use Rattle.semantics.specs.Machine.{Snapshot, step, is_enabled}
-use Rattle.semantics_schedules.specs.Schedules.{complete_schedules}
-use Rattle.semantics_schedules.specs.Order.{is_complete}
-use Rattle.semantics_schedules.specs.Sleep.{is_kept, next_sleep_set, reduced_schedules}
 use Rattle.semantics.proofs.ListMembers.{in_contains, contains_in, in_filter, from_filter}
+use Rattle.semantics_schedules.specs.{Order.is_complete, Schedules.complete_schedules}
+use Rattle.semantics_schedules.specs.Sleep.{is_kept, next_sleep_set, reduced_schedules}
 
 pub reduced_members : (p : Program) (s : Snapshot) (Z : ℕ → Bool) (w : List ℕ)
     → Contains (reduced_schedules p s Z) w

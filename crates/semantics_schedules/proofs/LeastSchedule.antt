@@ -1,23 +1,19 @@
 -- The order of schedules is a strict total one, and the least of a rising list is its first.
 pub use Rattle.semantics_schedules.proofs.ReducedSchedules.{never_before_itself}
 use Rattle.std.proofs.Common.{◌≡◌, ℕ, zero, suc, ◌<◌, ◌⊎◌, inl, inr, Bool, true, false, cond, ◌&&◌, ◌||◌, nat_eq, nat_lt, List, [], ◌∷◌, Option, Some, None, slice_get, length, get_or, refl, arith, subst}
-use Rattle.std.specs.declared.cmp.Ordering.{Ordering}
+use Rattle.std.specs.{Cmp.Lexicographic.slice_cmp, List.{filter, Contains}}
+use Rattle.std.specs.{Ordering.{ordering_then, is_lt, nat_cmp}, declared.cmp.Ordering.Ordering}
 use Rattle.std.specs.declared.cmp.Ordering.TheVariants.{Less, Equal, Greater}
-use Rattle.std.specs.Ordering.{ordering_then, is_lt, nat_cmp}
-use Rattle.std.specs.Cmp.Lexicographic.{slice_cmp}
-use Rattle.std.specs.List.{filter, Contains}
 use Rattle.guest_code.specs.Program.{Program}
-use Rattle.semantics.specs.Machine.{Snapshot}
-use Rattle.semantics_schedules.specs.Schedules.{complete_schedules}
-use Rattle.semantics_schedules.specs.Order.{precedes, lesser, least, ends_badly}
-use Rattle.semantics.specs.Waiters.{In}
-use Rattle.semantics_schedules.specs.Rising.{IsRising}
+use Rattle.semantics.specs.{Machine.Snapshot, Waiters.In}
 use Rattle.semantics.proofs.ListMembers.{in_contains, contains_in, from_filter}
-use Rattle.semantics_schedules.proofs.SleepSets.{Before}
-use Rattle.semantics_schedules.proofs.ReducedSchedules.{before_precedes, precedes_before, before_trans, not_before, Ordered, ordered, IsLeast, least_is}
-use Rattle.semantics_schedules.proofs.ReducedSchedules.Ordered.{first, equal, second}
-use Rattle.semantics_schedules.proofs.ReducedSchedules.IsLeast.{none, some}
+use Rattle.semantics_schedules.specs.{Order.{precedes, lesser, least, ends_badly}, Rising.IsRising}
+use Rattle.semantics_schedules.specs.Schedules.{complete_schedules}
 use Rattle.semantics_schedules.proofs.CompleteSchedulesRise.{Rises, all_rise}
+use Rattle.semantics_schedules.proofs.ReducedSchedules.{before_precedes, precedes_before, before_trans, not_before, Ordered, ordered, IsLeast, least_is}
+use Rattle.semantics_schedules.proofs.ReducedSchedules.IsLeast.{none, some}
+use Rattle.semantics_schedules.proofs.ReducedSchedules.Ordered.{first, equal, second}
+use Rattle.semantics_schedules.proofs.SleepSets.{Before}
 
 -- the order
 

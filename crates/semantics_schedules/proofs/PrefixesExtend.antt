@@ -1,20 +1,16 @@
 -- Each prefix goes on to a complete schedule without another preemption.
 use Rattle.std.proofs.Common.{◌≡◌, ◌≢◌, ℕ, zero, suc, ◌+◌, ◌<◌, ◌≤◌, Bool, true, false, not, ◌&&◌, nat_eq, nat_le, List, [], ◌∷◌, ◌++◌, Option, Some, None, refl, ap, ◌∙◌, arith}
-use Rattle.std.specs.List.{Contains}
-use Rattle.std.proofs.lemmas.Bool.{and_parts, and_from}
+use Rattle.std.{specs.List.Contains, proofs.lemmas.Bool.{and_parts, and_from}}
 use Rattle.std.proofs.lemmas.Bool.Decides.{nat_tests}
 use Rattle.guest_code.specs.Program.{Program}
-use Rattle.semantics.specs.Machine.{Snapshot, step, is_enabled, start}
-use Rattle.semantics.specs.Work.{work}
-use Rattle.semantics_schedules.specs.Schedules.{state_after, runs, complete_schedules, schedules_under, schedules_within, begins_with, preempts, preemptions_from, preemptions, last_after, last_of}
-use Rattle.semantics.specs.Mask.{one_if}
 use Rattle.semantics.specs.Ends.{is_terminal}
+use Rattle.semantics.specs.{Machine.{Snapshot, step, is_enabled, start}, Mask.one_if, Work.work}
+use Rattle.semantics.proofs.{ListMembers.{in_contains, contains_in, in_filter}, WorkFalls.work-step}
 use Rattle.semantics_schedules.specs.Order.{is_complete}
-use Rattle.semantics.proofs.WorkFalls.{work-step}
-use Rattle.semantics_schedules.proofs.UnfoldingUnderPrefix.{first_enabled, preemptions_from-append, preemptions-push}
-use Rattle.semantics.proofs.ListMembers.{in_contains, contains_in, in_filter}
+use Rattle.semantics_schedules.specs.Schedules.{state_after, runs, complete_schedules, schedules_under, schedules_within, begins_with, preempts, preemptions_from, preemptions, last_after, last_of}
 use Rattle.semantics_schedules.proofs.ReducedSchedules.{schedules_cut_at}
 use Rattle.semantics_schedules.proofs.SchedulesUnderPrefix.{begins_longer}
+use Rattle.semantics_schedules.proofs.UnfoldingUnderPrefix.{first_enabled, preemptions_from-append, preemptions-push}
 
 -- a complete schedule from a state, after a step of the one thread or of none, without a preemption
 record GoesOn (p : Program) (s : Snapshot) (last : Option ℕ) : Type 0 where

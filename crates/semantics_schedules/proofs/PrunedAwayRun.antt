@@ -2,14 +2,12 @@
 -- them.
 use Rattle.std.proofs.Common.{◌≡◌, [], ◌∷◌, map, filter, nat_le, refl}
 use Rattle.std.specs.Int.{int_wrap}
+use Rattle.semantics.specs.{Ends.{enabled, is_terminal}, Machine.start, Work.work}
 use Rattle.semantics.specs.declared.view.Kind.TheVariants.{Done, Failed}
-use Rattle.semantics.specs.Machine.{start}
-use Rattle.semantics.specs.Work.{work}
-use Rattle.semantics_schedules.specs.Schedules.{complete_schedules, preemptions}
-use Rattle.semantics.specs.Ends.{enabled, is_terminal}
 use Rattle.semantics_schedules.specs.Order.{end_of}
-use Rattle.semantics_schedules.specs.Sleep.{reduced_schedules, independent, none_asleep}
 use Rattle.semantics_schedules.specs.PrunedAway.{pruned_away, last, between, three_schedules}
+use Rattle.semantics_schedules.specs.Schedules.{complete_schedules, preemptions}
+use Rattle.semantics_schedules.specs.Sleep.{reduced_schedules, independent, none_asleep}
 
 pub three_complete : complete_schedules pruned_away (start pruned_away) ≡ three_schedules
 unfolding complete_schedules work enabled int_wrap

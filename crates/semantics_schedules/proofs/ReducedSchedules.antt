@@ -1,26 +1,22 @@
 -- What sleep sets leave has the ends and the least bad schedule of all.
 use Rattle.std.proofs.Common.{◌≡◌, ℕ, zero, suc, ◌<◌, ◌⊎◌, inl, inr, Bool, true, false, cond, ◌&&◌, ◌||◌, nat_eq, nat_lt, List, [], ◌∷◌, length, map, Option, Some, None, refl, ap, ◌∙◌, sym, arith, subst}
-use Rattle.std.specs.Cmp.{both_ways}
-use Rattle.std.specs.List.{filter, list_any}
+use Rattle.std.specs.{Cmp.both_ways, List.{filter, list_any}}
 use Rattle.std.proofs.lemmas.Bool.{cases_order, or_cases, and_parts, and_from, or_left, or_right}
 use Rattle.std.proofs.lemmas.Bool.Decides.{nat_tests}
 use Rattle.guest_code.specs.Program.{Program}
-use Rattle.semantics.specs.Machine.{Snapshot, step, is_enabled}
-use Rattle.semantics_schedules.specs.Schedules.{state_after, before, complete_schedules}
 use Rattle.semantics.specs.Ends.{enabled, is_terminal, view_at}
+use Rattle.semantics.specs.{Machine.{Snapshot, step, is_enabled}, View.{View, is_bad}, Waiters.In}
 use Rattle.semantics.specs.Work.{up_from, work}
-use Rattle.semantics.specs.View.{View, is_bad}
-use Rattle.semantics.specs.Waiters.{In}
-use Rattle.semantics_schedules.specs.Represents.{Represents}
-use Rattle.semantics_schedules.specs.Sleep.{is_kept, reduced_schedules, none_asleep}
-use Rattle.semantics_schedules.specs.Order.{is_complete, precedes, lesser, least, end_from, ends_badly}
-use Rattle.semantics.proofs.WorkFalls.{work-step, enabled_below}
-use Rattle.semantics.proofs.TerminalStates.{is_terminal-some}
-use Rattle.semantics_schedules.proofs.UnfoldingUnderPrefix.{complete_schedules-more, complete_schedules-terminal}
 use Rattle.semantics.proofs.ListMembers.{in_filter, from_filter, in_map, from_map, in_flat_map, from_flat_map, in_up_from, fewer, in_contains, contains_in}
+use Rattle.semantics.proofs.{TerminalStates.is_terminal-some, WorkFalls.{work-step, enabled_below}}
+use Rattle.semantics_schedules.specs.Order.{is_complete, precedes, lesser, least, end_from, ends_badly}
+use Rattle.semantics_schedules.specs.Represents.{Represents}
+use Rattle.semantics_schedules.specs.Schedules.{state_after, before, complete_schedules}
+use Rattle.semantics_schedules.specs.Sleep.{is_kept, reduced_schedules, none_asleep}
 use Rattle.semantics_schedules.proofs.SleepSets.{lt_of, Before, Kept, hides_nobody, plain_law}
 use Rattle.semantics_schedules.proofs.SleepSets.Before.{ends, lower, after_same}
 use Rattle.semantics_schedules.proofs.SleepSets.Kept.{left, earlier, asleep_first}
+use Rattle.semantics_schedules.proofs.UnfoldingUnderPrefix.{complete_schedules-more, complete_schedules-terminal}
 
 -- the order of schedules
 

@@ -1,30 +1,24 @@
 -- A renamed thread does in a renamed state what the thread does in the state.
 use Rattle.std.specs.Prelude.{option_map}
-use Rattle.std.specs.Cmp.{both_ways}
-use Rattle.std.specs.List.{list_any, list_all}
 use Rattle.std.proofs.Common.{◌≡◌, ℕ, zero, suc, pos, ◌<◌, ◌+◌, ◌⊎◌, inl, inr, Bool, true, false, not, cond, ◌&&◌, ◌||◌, nat_eq, List, [], ◌∷◌, ◌++◌, map, length, get_or, set, slice_get, Option, Some, None, refl, ap, ◌∙◌, sym, subst}
-use Rattle.std.proofs.Math.ListN.{get_or-map}
+use Rattle.std.{specs.Cmp.both_ways, specs.List.{list_any, list_all}, proofs.Math.ListN.get_or-map}
 use Rattle.std.proofs.lemmas.Bool.{cases_eq, cases_lt, eq-eqb, ne_eqb, and_parts, and_from}
 use Rattle.std.proofs.lemmas.List.{map-set, map-append, get_or-set_same, get_or-set_other, get_or_past, take-map, drop-map}
-use Rattle.guest_code.specs.declared.program.Instruction.{Instruction}
-use Rattle.guest_code.specs.Program.{Program, code_of}
-use Rattle.semantics.specs.declared.view.Kind.TheVariants.{Done, Failed, Stuck}
-use Rattle.semantics.specs.declared.state.Thread.{Thread}
-use Rattle.semantics.specs.declared.state.Stop.TheVariants.{NotHeld}
-use Rattle.semantics.specs.declared.state.Status.TheVariants.{Waiting, Stopped}
-use Rattle.semantics.specs.declared.state.MutexAction.{MutexAction}
-use Rattle.semantics.specs.declared.state.MutexAction.TheVariants.{Lock as Locks, Unlock as Unlocks, Retake as Retakes}
+use Rattle.guest_code.specs.{Program.{Program, code_of}, declared.program.Instruction.Instruction}
+use Rattle.semantics.specs.Ends.{is_terminal, view_at, is_stopped, is_ended}
+use Rattle.semantics.specs.Machine.{Snapshot, acts, step, is_enabled, can_do, next_of, action_at, thread_at, missing_thread, with_status, resumed, wake, woken, threads_to_wake, queue_after, queue_joined, given_back, owner_of, queue_of, owns, is_free, var_after, reader_after, sem_allows, owner_after, taker_after, waiter_after, count_after, counter_after}
+use Rattle.semantics.specs.{Mask.one_if, declared.state.Action.Action}
+use Rattle.semantics.specs.declared.state.Action.TheVariants.{OnVariable, OnMutex, Wait as Waits, OnCondition, OnSemaphore}
 use Rattle.semantics.specs.declared.state.ConditionAction.{ConditionAction}
 use Rattle.semantics.specs.declared.state.ConditionAction.TheVariants.{Signal as Signals, Broadcast as Broadcasts}
-use Rattle.semantics.specs.declared.state.Action.{Action}
-use Rattle.semantics.specs.declared.state.Action.TheVariants.{OnVariable, OnMutex, Wait as Waits, OnCondition, OnSemaphore}
-use Rattle.semantics.specs.Machine.{Snapshot, acts, step, is_enabled, can_do, next_of, action_at, thread_at, missing_thread, with_status, resumed, wake, woken, threads_to_wake, queue_after, queue_joined, given_back, owner_of, queue_of, owns, is_free, var_after, reader_after, sem_allows, owner_after, taker_after, waiter_after, count_after, counter_after}
-use Rattle.semantics.specs.Mask.{one_if}
-use Rattle.semantics.specs.Ends.{is_terminal, view_at, is_stopped, is_ended}
+use Rattle.semantics.specs.declared.state.MutexAction.{MutexAction}
+use Rattle.semantics.specs.declared.state.MutexAction.TheVariants.{Lock as Locks, Unlock as Unlocks, Retake as Retakes}
+use Rattle.semantics.specs.declared.state.Status.TheVariants.{Waiting, Stopped}
+use Rattle.semantics.specs.declared.state.{Stop.TheVariants.NotHeld, Thread.Thread}
+use Rattle.semantics.specs.declared.view.Kind.TheVariants.{Done, Failed, Stuck}
 use Rattle.semantics.proofs.Waking.{wake-length}
+use Rattle.semantics_schedules.specs.{Order.{is_complete, end_from}, Renaming.{IsRenaming, Renamed}}
 use Rattle.semantics_schedules.specs.Schedules.{state_after, preempts, preemptions_from}
-use Rattle.semantics_schedules.specs.Order.{is_complete, end_from}
-use Rattle.semantics_schedules.specs.Renaming.{IsRenaming, Renamed}
 use Rattle.semantics_schedules.proofs.SchedulesUnderPrefix.{over_nobody}
 
 -- what a choice gives, passed through a function

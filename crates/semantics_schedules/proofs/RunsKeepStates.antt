@@ -2,14 +2,12 @@
 use Rattle.std.proofs.Common.{◌≡◌, ℕ, true, List, [], ◌∷◌, Some, refl, ◌∙◌, sym, subst}
 use Rattle.std.proofs.lemmas.Bool.{and_parts}
 use Rattle.guest_code.specs.Program.{Program}
-use Rattle.semantics.specs.Machine.{Snapshot, step, start, is_enabled, thread_at, owner_of}
 use Rattle.semantics.specs.Effects.{IsOver}
-use Rattle.semantics.specs.Reachable.{IsOf}
-use Rattle.semantics.specs.Waiters.{HasWaiters}
-use Rattle.semantics_schedules.specs.Schedules.{runs, state_after}
+use Rattle.semantics.specs.Machine.{Snapshot, step, start, is_enabled, thread_at, owner_of}
+use Rattle.semantics.specs.{Reachable.IsOf, Waiters.HasWaiters}
 use Rattle.semantics.proofs.MutexSteps.{owner_stays, over_same, over_other}
-use Rattle.semantics.proofs.QueuesHoldWaiters.{step_keeps, start_has}
-use Rattle.semantics.proofs.StepsKeepStates.{step_is_of}
+use Rattle.semantics.proofs.{QueuesHoldWaiters.{step_keeps, start_has}, StepsKeepStates.step_is_of}
+use Rattle.semantics_schedules.specs.Schedules.{runs, state_after}
 
 -- the state is one of the program
 pub run_is_of : (p : Program) (s : Snapshot) (w : List ℕ) → IsOf p s → runs p s w ≡ true

@@ -1,15 +1,12 @@
 -- How many steps a schedule has at most.
 use Rattle.std.proofs.Common.{◌≡◌, ℕ, zero, suc, ◌+◌, ◌*◌, ◌<◌, ◌≤◌, true, List, [], ◌∷◌, length, map, drop, get_or, arith}
-use Rattle.std.proofs.lemmas.Bool.{and_parts}
-use Rattle.std.proofs.lemmas.List.{length-map}
-use Rattle.guest_code.specs.declared.program.Instruction.{Instruction}
-use Rattle.guest_code.specs.declared.program.Instruction.TheVariants.{Wait}
-use Rattle.guest_code.specs.declared.limits.TheConstants.{THREADS, INSTRUCTIONS}
+use Rattle.std.proofs.lemmas.{Bool.and_parts, List.length-map}
 use Rattle.guest_code.specs.Program.{Program, Thread, no_thread, code_of, IsValidCode, IsWellFormed}
-use Rattle.semantics_schedules.specs.declared.limits.TheConstants.{STEPS}
+use Rattle.guest_code.specs.declared.limits.TheConstants.{THREADS, INSTRUCTIONS}
+use Rattle.guest_code.specs.declared.program.Instruction.{Instruction, TheVariants.Wait}
+use Rattle.semantics_schedules.specs.{Schedules.runs, declared.limits.TheConstants.STEPS}
 use Rattle.semantics.specs.Machine.{Snapshot, local_run, initial_thread, step, is_enabled, start, missing_thread}
 use Rattle.semantics.specs.Work.{up_from, total_by, steps_of, steps_in, thread_left, left_of, work, most_steps}
-use Rattle.semantics_schedules.specs.Schedules.{runs}
 use Rattle.semantics.proofs.WorkFalls.{work-step, steps_in-less, steps_left-most}
 
 pub runs_short : (p : Program) (s : Snapshot) (w : List ℕ) → runs p s w ≡ true → length w ≤ work p s

@@ -1,19 +1,16 @@
 -- What lies under a prefix, and under several.
 use Rattle.std.proofs.Common.{◌≡◌, ◌↔◌, ◌⊎◌, inl, inr, ℕ, ◌<◌, ◌≤◌, Bool, true, false, cond, ◌&&◌, nat_eq, nat_lt, nat_le, List, [], ◌∷◌, ◌++◌, refl, ap, ◌∙◌, sym, arith, subst}
-use Rattle.std.specs.List.{filter, Contains}
-use Rattle.std.proofs.lemmas.Bool.{and_parts, and_from}
+use Rattle.std.{specs.List.{filter, Contains}, proofs.lemmas.Bool.{and_parts, and_from}}
 use Rattle.std.proofs.lemmas.Bool.Decides.{nat_tests}
 use Rattle.guest_code.specs.Program.{Program}
-use Rattle.semantics.specs.Machine.{Snapshot, is_enabled, step, start}
 use Rattle.semantics.specs.Ends.{is_terminal, enabled}
-use Rattle.semantics_schedules.specs.Schedules.{state_after, runs, complete_schedules, schedules_under}
-use Rattle.semantics_schedules.specs.Schedules.{schedules_within, exceeds_bound, begins_with, preemptions}
-use Rattle.semantics_schedules.specs.Order.{is_complete, precedes}
-use Rattle.semantics.proofs.TerminalStates.{is_terminal-some, is_terminal-none}
+use Rattle.semantics.specs.Machine.{Snapshot, is_enabled, step, start}
 use Rattle.semantics.proofs.ListMembers.{in_contains, contains_in, in_filter, from_filter}
+use Rattle.semantics.proofs.TerminalStates.{is_terminal-some, is_terminal-none}
+use Rattle.semantics_schedules.specs.Order.{is_complete, precedes}
+use Rattle.semantics_schedules.specs.Schedules.{state_after, runs, complete_schedules, schedules_under, schedules_within, exceeds_bound, begins_with, preemptions}
 use Rattle.semantics_schedules.proofs.ReducedSchedules.{among, from_enabled, any_in, in_any, eq_of, schedules_cut_at, in_all, before_precedes}
-use Rattle.semantics_schedules.proofs.SleepSets.{Before}
-use Rattle.semantics_schedules.proofs.SleepSets.Before.{lower, after_same}
+use Rattle.semantics_schedules.proofs.SleepSets.{Before, Before.{lower, after_same}}
 
 -- who begins with whom
 

@@ -1,19 +1,12 @@
 -- Independent steps commute, and what sleep sets leave out is met earlier.
-use Rattle.std.proofs.lemmas.Bool.{and_from, false≢true}
-use Rattle.std.proofs.Common.{◌≡◌, ℕ, ◌<◌, Bool, true, false, not, cond, ◌&&◌, ◌||◌, nat_lt, List, [], ◌∷◌, Option, Some, None, refl, ap, ◌∙◌, sym, arith}
+use Rattle.std.proofs.Common.{◌≡◌, ℕ, ◌<◌, Bool, true, false, not, cond, ◌&&◌, ◌||◌, nat_lt, List, [], ◌∷◌, Option, Some, None, refl, ap, ◌∙◌, sym, arith, ◌++◌, length, inl, inr}
+use Rattle.std.{specs.List.{filter, flat_map}, proofs.lemmas.Bool.{and_from, false≢true}}
+use Rattle.std.proofs.lemmas.{Bool.Decides.nat_tests, List.Elements.filter-append}
 use Rattle.guest_code.specs.Program.{Program}
-use Rattle.semantics.specs.Machine.{Snapshot, step, is_enabled}
-use Rattle.std.specs.List.{filter, flat_map}
-use Rattle.std.proofs.Common.{◌++◌, length, inl, inr}
-use Rattle.std.proofs.lemmas.List.Elements.{filter-append}
+use Rattle.semantics.specs.{Ends.{enabled, is_terminal}, Machine.{Snapshot, step, is_enabled}}
+use Rattle.semantics.{specs.Waiters.In, specs.Work.up_from, proofs.ListMembers.from_filter}
+use Rattle.semantics_schedules.specs.{EqualThreads.{Hiding, is_unhidden}, Order.is_complete}
 use Rattle.semantics_schedules.specs.Schedules.{state_after, before, complete_schedules}
-use Rattle.semantics.specs.Ends.{enabled, is_terminal}
-use Rattle.semantics.specs.Work.{up_from}
-use Rattle.semantics.specs.Waiters.{In}
-use Rattle.semantics.proofs.ListMembers.{from_filter}
-use Rattle.semantics_schedules.specs.Order.{is_complete}
-use Rattle.std.proofs.lemmas.Bool.Decides.{nat_tests}
-use Rattle.semantics_schedules.specs.EqualThreads.{Hiding, is_unhidden}
 use Rattle.semantics_schedules.specs.Sleep.{independent, next_sleep_set, is_kept, reduced_schedules}
 use Rattle.semantics_schedules.proofs.IndependentStepsCommute.{still_enabled, commute, independent-swap}
 use Rattle.semantics_schedules.proofs.UnfoldingUnderPrefix.{and_true, complete_schedules-more, complete_schedules-terminal}

@@ -2,16 +2,15 @@
 use Rattle.std.proofs.Common.{◌≡◌, ◌↔◌, ◌⊎◌, inl, inr, ℕ, Bool, true, List, ◌∷◌, Option, None, map}
 use Rattle.std.specs.List.{Contains}
 use Rattle.guest_code.specs.Program.{Program}
-use Rattle.semantics.specs.Machine.{Snapshot}
-use Rattle.semantics_schedules.specs.Schedules.{complete_schedules, state_after}
-use Rattle.semantics_schedules.specs.EqualThreads.{Hiding, is_unhidden}
-use Rattle.semantics_schedules.specs.Sleep.{is_kept, reduced_schedules, none_asleep, IsMetEarlier, IsMetAsleep}
-use Rattle.semantics_schedules.specs.Order.{is_complete, precedes, end_from}
-use Rattle.semantics.specs.View.{View}
+use Rattle.semantics.specs.{Machine.Snapshot, View.View}
 use Rattle.semantics.proofs.ListMembers.{in_contains, contains_in}
+use Rattle.semantics_schedules.specs.EqualThreads.{Hiding, is_unhidden}
+use Rattle.semantics_schedules.specs.Order.{is_complete, precedes, end_from}
+use Rattle.semantics_schedules.specs.Schedules.{complete_schedules, state_after}
+use Rattle.semantics_schedules.specs.Sleep.{is_kept, reduced_schedules, none_asleep, IsMetEarlier, IsMetAsleep}
+use Rattle.semantics_schedules.proofs.ReducedSchedules.{before_precedes, schedules_cut_at, in_all, reduced_represent}
 use Rattle.semantics_schedules.proofs.SleepSets.{Kept, hides_nobody, plain_law}
 use Rattle.semantics_schedules.proofs.SleepSets.Kept.{left, earlier, asleep_first}
-use Rattle.semantics_schedules.proofs.ReducedSchedules.{before_precedes, schedules_cut_at, in_all, reduced_represent}
 
 pub complete : (p : Program) (s : Snapshot) (w : List ℕ)
     → (is_complete p s w ≡ true) ↔ Contains (complete_schedules p s) w

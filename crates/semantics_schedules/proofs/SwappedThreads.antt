@@ -5,13 +5,12 @@ use Rattle.std.proofs.Common.{◌≡◌, ◌≢◌, ℕ, ◌<◌, inl, inr, Bool
 use Rattle.std.proofs.lemmas.Bool.{cases_eq, eqb-true, eq-eqb, ne_eqb}
 use Rattle.guest_code.specs.Program.{Program, code_of}
 use Rattle.semantics.specs.Machine.{Snapshot, thread_at}
-use Rattle.semantics_schedules.specs.Schedules.{preemptions_from}
+use Rattle.semantics_schedules.specs.EqualThreads.{AreEqual, StandsFor}
 use Rattle.semantics_schedules.specs.Order.{is_complete, end_from}
 use Rattle.semantics_schedules.specs.Renaming.{swapped, IsRenaming, Renamed}
-use Rattle.semantics_schedules.specs.EqualThreads.{AreEqual, StandsFor}
-use Rattle.semantics_schedules.proofs.SleepSets.{Before}
-use Rattle.semantics_schedules.proofs.SleepSets.Before.{lower}
+use Rattle.semantics_schedules.specs.Schedules.{preemptions_from}
 use Rattle.semantics_schedules.proofs.RenamedStates.{complete_renamed, preemptions_renamed, end_renamed}
+use Rattle.semantics_schedules.proofs.SleepSets.{Before, Before.lower}
 
 pub swapped_first : (t u : ℕ) → swapped t u t ≡ u
 swapped_first t u = ap (λ b. cond b u (cond (nat_eq t u) t t)) (eq-eqb t t refl)

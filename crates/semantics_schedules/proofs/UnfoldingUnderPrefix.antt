@@ -1,22 +1,16 @@
 -- The complete schedules that begin with a prefix, and their laws.
-use Rattle.std.proofs.lemmas.List.Elements.{filter-append}
-use Rattle.std.proofs.lemmas.List.{append-nil, map-append}
-use Rattle.std.proofs.lemmas.Simd.{map-map}
-use Rattle.std.proofs.lemmas.List.Folds.{list_any-append}
 use Rattle.std.proofs.Common.{◌≡◌, ◌≢◌, ℕ, zero, suc, ◌+◌, ◌<◌, ◌≤◌, Bool, true, false, cond, ◌&&◌, ◌||◌, nat_eq, nat_le, nat_lt, List, [], ◌∷◌, ◌++◌, length, map, Option, Some, None, refl, ap, ◌∙◌, sym, arith, inl, inr, append_assoc}
-use Rattle.std.proofs.lemmas.Bool.{cases_lt}
-use Rattle.std.specs.List.{filter, flat_map, list_any}
+use Rattle.std.{specs.List.{filter, flat_map, list_any}, proofs.lemmas.Bool.cases_lt}
 use Rattle.std.proofs.lemmas.Bool.Decides.{nat_tests}
+use Rattle.std.proofs.lemmas.List.{append-nil, map-append, length-append, length-map}
+use Rattle.std.proofs.lemmas.{List.Elements.filter-append, List.Folds.list_any-append, Simd.map-map}
 use Rattle.guest_code.specs.Program.{Program}
-use Rattle.semantics.specs.Machine.{Snapshot, is_enabled, step, start}
-use Rattle.semantics.specs.Work.{up_from, work}
 use Rattle.semantics.specs.Ends.{enabled, is_terminal, is_empty}
-use Rattle.semantics_schedules.specs.Schedules.{state_after, runs, before, or_complete, complete_schedules, schedules_under, schedules_within, exceeds_bound, begins_with, preempts, preemptions_from, preemptions, last_after, last_of}
-use Rattle.semantics.specs.Mask.{one_if}
-use Rattle.semantics_schedules.proofs.CompleteSchedulesUnfold.{complete_schedules-unfold, flat_map-filter_same}
+use Rattle.semantics.specs.{Machine.{Snapshot, is_enabled, step, start}, Mask.one_if}
+use Rattle.semantics.{specs.Work.{up_from, work}, proofs.TerminalStates.is_terminal-some}
 use Rattle.semantics.proofs.WorkFalls.{enabled_below, work-step}
-use Rattle.std.proofs.lemmas.List.{length-append, length-map}
-use Rattle.semantics.proofs.TerminalStates.{is_terminal-some}
+use Rattle.semantics_schedules.specs.Schedules.{state_after, runs, before, or_complete, complete_schedules, schedules_under, schedules_within, exceeds_bound, begins_with, preempts, preemptions_from, preemptions, last_after, last_of}
+use Rattle.semantics_schedules.proofs.CompleteSchedulesUnfold.{complete_schedules-unfold, flat_map-filter_same}
 
 pub and_true : (a b : Bool) → (a && b) ≡ true → (a ≡ true) × (b ≡ true)
 and_true true b h = (refl, h)

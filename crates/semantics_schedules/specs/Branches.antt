@@ -2,15 +2,13 @@
 -- } else { set q 9; } assert q == 7;`, by one thread with 5 for N and by one with 4.
 use Rattle.std.specs.Prelude.{◌≡◌, ℕ, ℤ, pos, List, [], ◌∷◌}
 use Rattle.guest_syntax.specs.declared.tree.Op.TheVariants.{Equal}
-use Rattle.guest_code.specs.declared.program.Value.TheVariants.{Local, Literal}
-use Rattle.guest_code.specs.declared.program.Expression.{Expression}
+use Rattle.guest_code.specs.{Program.Program, declared.program.Expression.Expression}
 use Rattle.guest_code.specs.declared.program.Expression.TheVariants.{Single, Both}
 use Rattle.guest_code.specs.declared.program.Instruction.{Instruction}
 use Rattle.guest_code.specs.declared.program.Instruction.TheVariants.{Set, Assert, SkipIfZero, Skip}
-use Rattle.guest_code.specs.Program.{Program}
-use Rattle.semantics.specs.declared.state.Status.{Status}
+use Rattle.guest_code.specs.declared.program.Value.TheVariants.{Local, Literal}
+use Rattle.semantics.specs.{Effects.local_of, declared.state.Status.Status}
 use Rattle.semantics.specs.declared.state.Thread.{Thread}
-use Rattle.semantics.specs.Effects.{local_of}
 
 abbrev pub number : ℕ → Expression
 number n = Single (Literal (pos n))

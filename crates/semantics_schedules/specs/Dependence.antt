@@ -2,12 +2,11 @@
 use Rattle.std.specs.Prelude.{◌≡◌, ◌⊎◌, List, Option, Some, option_map}
 use Rattle.std.specs.List.{Any}
 use Rattle.guest_code.specs.declared.program.Instruction.{Instruction}
-use Rattle.semantics.specs.declared.state.Status.{Status}
-use Rattle.semantics.specs.declared.state.Action.{Action}
-use Rattle.semantics.specs.Machine.{action_at}
 use Rattle.semantics.specs.Accesses.{Access, accesses, Object, Writes}
 use Rattle.semantics.specs.Accesses.Access.{reads_var, writes_var, writes_mutex, writes_condition, writes_semaphore}
 use Rattle.semantics.specs.Accesses.Object.{variable, mutex, condition, semaphore}
+use Rattle.semantics.specs.{Machine.action_at, declared.state.Action.Action}
+use Rattle.semantics.specs.declared.state.Status.{Status}
 
 -- the object that is accessed
 abbrev pub object_of : Access → Object

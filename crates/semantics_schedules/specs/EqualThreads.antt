@@ -1,18 +1,15 @@
 -- Equal threads, of which only the lowest has to be tried: which threads are hidden then, and what
 -- is left of all complete schedules.
 use Rattle.std.specs.Prelude.{◌≡◌, ◌≢◌, ◌<◌, ℕ, zero, suc, Bool, true, false, not, ◌&&◌, ◌||◌, nat_eq, List, [], ◌∷◌, map, filter, Option, Some, None, option_map}
-use Rattle.std.specs.Cmp.Lexicographic.{pointwise}
-use Rattle.std.specs.Option.{option_eq}
-use Rattle.std.specs.Ordering.{int_eq}
-use Rattle.guest_code.specs.Program.{Program, code_of}
-use Rattle.guest_code.specs.Same.{same_instruction}
-use Rattle.semantics.specs.declared.state.Thread.{Thread}
-use Rattle.semantics.specs.contracts.state.StatusPartialEq.TheImpl.{eq-value as same-status}
+use Rattle.std.specs.{Cmp.Lexicographic.pointwise, Option.option_eq, Ordering.int_eq}
+use Rattle.guest_code.specs.{Program.{Program, code_of}, Same.same_instruction}
 use Rattle.semantics.specs.Machine.{Snapshot, step, is_enabled, thread_at}
-use Rattle.semantics_schedules.specs.Schedules.{complete_schedules, preemptions_from}
+use Rattle.semantics.specs.contracts.state.StatusPartialEq.TheImpl.{eq-value as same-status}
+use Rattle.semantics.specs.declared.state.Thread.{Thread}
 use Rattle.semantics_schedules.specs.Order.{is_complete, precedes, end_from}
-use Rattle.semantics_schedules.specs.Sleep.{reduced_schedules}
 use Rattle.semantics_schedules.specs.Renaming.{swapped, Renamed}
+use Rattle.semantics_schedules.specs.Schedules.{complete_schedules, preemptions_from}
+use Rattle.semantics_schedules.specs.Sleep.{reduced_schedules}
 
 -- two threads are equal in a state: they have the same code, whatever their names, and swapping
 -- them changes nothing there

@@ -1,10 +1,8 @@
 -- A schedule as it is carried out: what is kept of the steps that were taken.
 use Rattle.std.specs.Prelude.{◌≡◌, ℕ, ◌+◌, ◌<◌, true, List, length, Option, Some, IfSome}
 use Rattle.guest_code.specs.Program.{Program}
-use Rattle.semantics.specs.Machine.{Snapshot, start, step}
+use Rattle.semantics.specs.{Machine.{Snapshot, start, step}, Mask.one_if, Reachable.IsOf}
 use Rattle.semantics_schedules.specs.Schedules.{state_after, runs, preempts, preemptions, last_of}
-use Rattle.semantics.specs.Mask.{one_if}
-use Rattle.semantics.specs.Reachable.{IsOf}
 
 -- the state after the steps, the thread of the last one, if there is one, and the preempting
 -- switches

@@ -3,13 +3,11 @@
 -- B { load r x; set r r + 1; store x r; }`.
 use Rattle.std.specs.Prelude.{ℕ, ℤ, pos, List, [], ◌∷◌}
 use Rattle.guest_syntax.specs.declared.tree.Op.TheVariants.{Add as plus}
-use Rattle.guest_code.specs.declared.program.Value.TheVariants.{Local, Literal}
-use Rattle.guest_code.specs.declared.program.Expression.TheVariants.{Both}
+use Rattle.guest_code.specs.{Program.Program, declared.program.Expression.TheVariants.Both}
 use Rattle.guest_code.specs.declared.program.Instruction.{Instruction}
 use Rattle.guest_code.specs.declared.program.Instruction.TheVariants.{Load, Store, Set}
-use Rattle.guest_code.specs.Program.{Program}
-use Rattle.semantics.specs.declared.view.Kind.TheVariants.{Done}
-use Rattle.semantics.specs.View.{View}
+use Rattle.guest_code.specs.declared.program.Value.TheVariants.{Local, Literal}
+use Rattle.semantics.specs.{View.View, declared.view.Kind.TheVariants.Done}
 
 -- load x into local 0, add 1 to it, store it into x
 abbrev pub increment : List Instruction

@@ -1,10 +1,9 @@
 -- Which schedules are complete, the order of schedules, and the least of a list.
 use Rattle.std.specs.Prelude.{ℕ, Bool, true, false, ◌&&◌, ◌||◌, nat_eq, nat_lt, List, [], ◌∷◌, Option, Some, None, if◌then◌else◌}
 use Rattle.guest_code.specs.Program.{Program}
-use Rattle.semantics.specs.Machine.{Snapshot, step, is_enabled, start}
-use Rattle.semantics_schedules.specs.Schedules.{state_after}
 use Rattle.semantics.specs.Ends.{is_terminal, view_at}
-use Rattle.semantics.specs.View.{View, is_bad}
+use Rattle.semantics.specs.{Machine.{Snapshot, step, is_enabled, start}, View.{View, is_bad}}
+use Rattle.semantics_schedules.specs.Schedules.{state_after}
 
 -- the schedule is complete from a state: each step is one of an enabled thread, and nothing is
 -- enabled at the end

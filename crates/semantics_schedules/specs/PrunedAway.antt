@@ -3,11 +3,10 @@
 -- load.
 use Rattle.std.specs.Prelude.{ℕ, pos, List, [], ◌∷◌}
 use Rattle.guest_syntax.specs.declared.tree.Op.TheVariants.{Equal}
-use Rattle.guest_code.specs.declared.program.Value.TheVariants.{Local, Literal}
-use Rattle.guest_code.specs.declared.program.Expression.TheVariants.{Both}
+use Rattle.guest_code.specs.{Program.Program, declared.program.Expression.TheVariants.Both}
 use Rattle.guest_code.specs.declared.program.Instruction.{Instruction}
 use Rattle.guest_code.specs.declared.program.Instruction.TheVariants.{Load, Store, Assert}
-use Rattle.guest_code.specs.Program.{Program}
+use Rattle.guest_code.specs.declared.program.Value.TheVariants.{Local, Literal}
 
 -- store 1 to y, load x into local 0, and assert that this is 0
 abbrev pub asserting : List Instruction

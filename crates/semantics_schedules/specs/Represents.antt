@@ -3,10 +3,9 @@
 use Rattle.std.specs.Prelude.{◌≡◌, ◌↔◌, ℕ, Bool, nat_le, nat_lt, List, map, filter, Option, Contains}
 use Rattle.std.specs.List.{list_any}
 use Rattle.guest_code.specs.Program.{Program}
-use Rattle.semantics.specs.Machine.{Snapshot}
-use Rattle.semantics.specs.View.{View}
-use Rattle.semantics_schedules.specs.Schedules.{preemptions_from}
+use Rattle.semantics.specs.{Machine.Snapshot, View.View}
 use Rattle.semantics_schedules.specs.Order.{least, end_from, ends_badly}
+use Rattle.semantics_schedules.specs.Schedules.{preemptions_from}
 
 -- they are some of all, the least bad one of them is that of all, if there is one, and they have
 -- all end views

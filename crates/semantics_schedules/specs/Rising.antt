@@ -1,7 +1,6 @@
 -- What can be said of a list of schedules: it rises, it holds each once, and none begins another.
 use Rattle.std.specs.Prelude.{◌≡◌, ◌<◌, ℕ, true, List, [], length, slice_index_or, Contains}
-use Rattle.semantics_schedules.specs.Schedules.{begins_with}
-use Rattle.semantics_schedules.specs.Order.{precedes}
+use Rattle.semantics_schedules.specs.{Order.precedes, Schedules.begins_with}
 
 -- each schedule comes before all those after it in the list
 abbrev pub IsRising : List (List ℕ) → Type 0

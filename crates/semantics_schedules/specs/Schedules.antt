@@ -4,9 +4,7 @@
 use Rattle.std.specs.Prelude.{ℕ, zero, suc, ◌+◌, Bool, true, false, not, ◌&&◌, nat_eq, nat_le, nat_lt, List, [], ◌∷◌, map, filter, flat_map, Option, Some, None}
 use Rattle.std.specs.List.{list_any}
 use Rattle.guest_code.specs.Program.{Program}
-use Rattle.semantics.specs.Machine.{Snapshot, step, start, is_enabled}
-use Rattle.semantics.specs.Ends.{enabled}
-use Rattle.semantics.specs.Mask.{one_if}
+use Rattle.semantics.specs.{Ends.enabled, Machine.{Snapshot, step, start, is_enabled}, Mask.one_if}
 use Rattle.semantics.specs.Work.{work}
 
 -- the state that the steps of a schedule lead to

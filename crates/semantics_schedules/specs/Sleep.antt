@@ -1,14 +1,13 @@
 -- Independent steps, and what sleep sets leave of all complete schedules. A sleep set holds threads
 -- that need not step next: whatever they lead to is met in an earlier schedule too.
 use Rattle.std.specs.Prelude.{◌≡◌, ℕ, true, Bool, false, not, ◌&&◌, ◌||◌, nat_eq, nat_lt, List, [], ◌∷◌, filter, Option, Some}
-use Rattle.semantics.specs.declared.state.Action.{Action}
-use Rattle.guest_code.specs.Program.{Program}
-use Rattle.semantics.specs.Machine.{Snapshot, step, is_enabled, next_of}
-use Rattle.semantics_schedules.specs.Schedules.{complete_schedules, state_after}
-use Rattle.semantics.specs.Ends.{is_terminal}
-use Rattle.semantics_schedules.specs.Order.{is_complete, precedes}
 use Rattle.semantics.specs.Accesses.{Access, accesses}
 use Rattle.semantics.specs.Accesses.Access.{reads_var, writes_var, writes_mutex, writes_condition, writes_semaphore}
+use Rattle.semantics.specs.{Ends.is_terminal, Machine.{Snapshot, step, is_enabled, next_of}}
+use Rattle.semantics.specs.declared.state.Action.{Action}
+use Rattle.guest_code.specs.Program.{Program}
+use Rattle.semantics_schedules.specs.Order.{is_complete, precedes}
+use Rattle.semantics_schedules.specs.Schedules.{complete_schedules, state_after}
 
 -- both touch one object, and at least one of the two writes it
 abbrev pub conflict : Access → Access → Bool

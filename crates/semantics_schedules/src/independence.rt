@@ -1,9 +1,8 @@
 //! Which next steps are independent, and the sleep set after a step.
 
 ghost use Rattle.std.specs.Prelude.{◌≡◌, ◌<◌, ◌||◌, nat_lt, length, not, Some, IsTrue};
-ghost use Rattle.semantics.specs.Mask.{has, mask_of, HasEnabled};
+ghost use Rattle.semantics.specs.{Accesses.access_of, Mask.{has, mask_of, HasEnabled}};
 ghost use Rattle.semantics.specs.Reachable.{IsOf};
-ghost use Rattle.semantics.specs.Accesses.{access_of};
 ghost use Rattle.semantics_schedules.specs.Sleep.{conflict, apart, independent, next_sleep_set, CommutesWith};
 
 use guest_code::program::Program;

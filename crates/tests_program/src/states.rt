@@ -1,8 +1,7 @@
 //! Runs of small programs, each step of which is taken back on the way.
 
 ghost use Rattle.std.specs.Prelude.{IsTrue};
-ghost use Rattle.semantics.specs.Machine.{is_enabled};
-ghost use Rattle.semantics.specs.Reachable.{IsOf};
+ghost use Rattle.semantics.specs.{Machine.is_enabled, Reachable.IsOf};
 
 use guest_code::lowering::lower;
 use guest_code::program::Program;

@@ -1,45 +1,34 @@
 -- What arriving at a node does to a walk: the node gives way to its children, or is tried.
-use Rattle.std.proofs.Common.{◌≡◌, ℕ, ◌+◌, ◌-◌, ◌<◌, ◌≤◌, Bool, true, false, ◌&&◌, ◌||◌, not}
-use Rattle.std.proofs.Common.{List, [], ◌∷◌, ◌++◌, length, take, map, ap, refl, ◌∙◌, sym}
-use Rattle.std.proofs.Common.{arith, subst, min}
-use Rattle.std.specs.List.{filter}
+use Rattle.std.proofs.Common.{◌≡◌, ℕ, ◌+◌, ◌-◌, ◌<◌, ◌≤◌, Bool, true, false, ◌&&◌, ◌||◌, not, List}
+use Rattle.std.proofs.Common.{[], ◌∷◌, ◌++◌, length, take, map, ap, refl, ◌∙◌, sym, arith, subst}
+use Rattle.std.proofs.Common.{min}
+use Rattle.std.{specs.List.filter, proofs.Math.Bool.or-false}
 use Rattle.guest_code.specs.Program.{Program}
-use Rattle.semantics.specs.Reachable.{IsOf}
-use Rattle.semantics.specs.Machine.{Snapshot, start, is_enabled}
-use Rattle.semantics.specs.Work.{work}
 use Rattle.semantics.specs.Ends.{is_terminal, is_empty, view_at}
-use Rattle.semantics.specs.View.{View}
+use Rattle.semantics.specs.Machine.{Snapshot, start, is_enabled}
 use Rattle.semantics.specs.Mask.{has, members_from, no_threads, HasEnabled}
-use Rattle.semantics.specs.declared.mask.Mask.{Mask}
-use Rattle.walk_items.specs.declared.mode.Mode.{Mode}
-use Rattle.walk_items.specs.declared.mode.Mode.TheVariants.{Bounded, Reduced}
-use Rattle.walk.specs.declared.path.Node.{Node}
-use Rattle.walk.specs.declared.path.Path.{Path}
-use Rattle.walk.specs.declared.found.Found.{Found}
-use Rattle.walk_summary.specs.Summaries.{SummaryView, with_beyond, greatest_count, added}
-use Rattle.walk_items.specs.Items.{ItemView, IsItem}
-use Rattle.walk_items.specs.Walks.{IsWalked, items_at}
+use Rattle.semantics.specs.{Reachable.IsOf, View.View, Work.work, declared.mask.Mask.Mask}
+use Rattle.semantics.proofs.{Masks.{empty_has, members_over}, WorkFalls.work-step}
 use Rattle.walk_items.specs.Children.{state_of, IsWithin, is_kept_step, kept_steps, past_steps}
-use Rattle.walk_items.specs.Children.{passes_bound, child_of, children_of, children}
-use Rattle.walk_items.specs.Children.{cost_of, costs}
+use Rattle.walk_items.specs.Children.{passes_bound, child_of, children_of, children, cost_of, costs}
+use Rattle.walk_items.specs.{Items.{ItemView, IsItem}, Walks.{IsWalked, items_at}}
+use Rattle.walk_items.specs.declared.mode.Mode.{Mode, TheVariants.{Bounded, Reduced}}
+use Rattle.walk_items.proofs.Turns.{costs-append, cost_two, children_cost, turns_more}
+use Rattle.walk.specs.declared.{found.Found.Found, path.Node.Node, path.Path.Path}
 use Rattle.walk.specs.inner.Paths.{used_frames, IsNode, IsPath, state_at}
 use Rattle.walk.specs.inner.WalkerInvariant.{item_of, here, left_above, still_open, turns_left}
 use Rattle.walk.specs.inner.WalkerInvariant.{turns_from, turns_into, is_kept_at, is_past_at}
-use Rattle.walk.specs.inner.WalkerInvariant.{IsWithinAt, open_from, IsPlace}
-use Rattle.walk.proofs.Puts.{put_none, put_same, put_more}
-use Rattle.walk.specs.inner.WalkerInvariant.{HasPut, IsWalkedOn, IsSearch, IsPushedIfOpen, IsPushed}
-use Rattle.walk.specs.inner.WalkerInvariant.{open_here, open_below, open_next}
-use Rattle.std.proofs.Math.Bool.{or-false}
-use Rattle.semantics.proofs.Masks.{empty_has, members_over}
+use Rattle.walk.specs.inner.WalkerInvariant.{IsWithinAt, open_from, IsPlace, HasPut, IsWalkedOn}
+use Rattle.walk.specs.inner.WalkerInvariant.{IsSearch, IsPushedIfOpen, IsPushed, open_here}
+use Rattle.walk.specs.inner.WalkerInvariant.{open_below, open_next}
+use Rattle.walk.proofs.{PathSteps.path_same, Puts.{put_none, put_same, put_more}}
 use Rattle.walk.proofs.SharedSteps.{shared_same, shared_kept, shared_back}
-use Rattle.walk.proofs.PathSteps.{path_same}
+use Rattle.walk.proofs.WalkSteps.{walk_of, first_on, own_kept, join_beyond_on, leaf_on, walked_node}
+use Rattle.walk.proofs.WalkSteps.{over_none, over_some}
 use Rattle.walk.proofs.WalkTurns.{step_enabled, kept_members, past_members, node_enabled}
 use Rattle.walk.proofs.WalkTurns.{deferred_are}
-use Rattle.walk.proofs.WalkSteps.{walk_of, first_on, own_kept, join_beyond_on, leaf_on}
-use Rattle.walk.proofs.WalkSteps.{walked_node, over_none, over_some}
-use Rattle.semantics.proofs.WorkFalls.{work-step}
+use Rattle.walk_summary.specs.Summaries.{SummaryView, with_beyond, greatest_count, added}
 use Rattle.semantics_schedules.proofs.UnfoldingUnderPrefix.{state_after-push}
-use Rattle.walk_items.proofs.Turns.{costs-append, cost_two, children_cost, turns_more}
 
 -- these are enabled at the path's node
 abbrev pub AreOn : Program → Path → Mask → Type 0

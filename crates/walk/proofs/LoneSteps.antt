@@ -1,38 +1,26 @@
 -- A thread that goes on alone: the node is at the bound, so that a step of another passes it.
-use Rattle.std.proofs.Common.{◌≡◌, ◌≢◌, ℕ, zero, suc, ◌+◌, ◌<◌, ◌≤◌, Bool, true, false, ◌&&◌}
-use Rattle.std.proofs.Common.{◌||◌, nat_eq, nat_le, nat_lt, not, List, [], ◌∷◌, ◌++◌, length}
-use Rattle.std.proofs.Common.{map, refl, ap, ◌∙◌, sym, arith, subst, inl, inr, Some, None, Option}
-use Rattle.std.specs.List.{filter}
-use Rattle.std.proofs.lemmas.Bool.{cases_lt, cases_order, false≢true}
-use Rattle.std.proofs.lemmas.Bool.Decides.{nat_tests}
+use Rattle.std.proofs.Common.{◌≡◌, ◌≢◌, ℕ, zero, suc, ◌+◌, ◌<◌, ◌≤◌, Bool, true, false, ◌&&◌, ◌||◌}
+use Rattle.std.proofs.Common.{nat_eq, nat_le, nat_lt, not, List, [], ◌∷◌, ◌++◌, length, map, refl}
+use Rattle.std.proofs.Common.{ap, ◌∙◌, sym, arith, subst, inl, inr, Some, None, Option}
+use Rattle.std.specs.{List.filter, declared.alloc.Global.Global, declared.vec.Vec.Vec}
+use Rattle.std.proofs.lemmas.Bool.{cases_lt, cases_order, false≢true, Decides.nat_tests}
 use Rattle.guest_code.specs.Program.{Program}
-use Rattle.semantics.specs.declared.mask.Mask.{Mask}
-use Rattle.semantics.specs.Ends.{is_empty, is_terminal, enabled}
-use Rattle.semantics.specs.Reachable.{IsOf}
-use Rattle.semantics.specs.Machine.{Snapshot, is_enabled}
-use Rattle.semantics.specs.Mask.{has, members_from, one_if}
-use Rattle.semantics.specs.Work.{up_from}
-use Rattle.semantics.proofs.TerminalStates.{is_terminal-some}
+use Rattle.semantics.specs.{Ends.{is_empty, is_terminal, enabled}, Machine.{Snapshot, is_enabled}}
+use Rattle.semantics.specs.{Mask.{has, members_from, one_if}, Reachable.IsOf, Work.up_from}
+use Rattle.semantics.{specs.declared.mask.Mask.Mask, proofs.TerminalStates.is_terminal-some}
 use Rattle.semantics.proofs.WorkFalls.{enabled_below}
-use Rattle.walk_items.specs.declared.mode.Mode.{Mode}
-use Rattle.walk_items.specs.declared.mode.Mode.TheVariants.{Bounded, Reduced}
-use Rattle.walk.specs.declared.path.Node.{Node}
-use Rattle.walk.specs.declared.path.Path.{Path}
-use Rattle.walk.specs.declared.found.Found.{Found}
-use Rattle.std.specs.declared.alloc.Global.{Global}
-use Rattle.std.specs.declared.vec.Vec.{Vec}
-use Rattle.walk_summary.specs.Summaries.{with_beyond}
-use Rattle.walk_items.specs.Items.{ItemView}
 use Rattle.walk_items.specs.Children.{is_kept_step, kept_steps, child_of, children_of, children}
+use Rattle.walk_items.specs.{Items.ItemView, declared.mode.Mode.Mode}
+use Rattle.walk_items.specs.declared.mode.Mode.TheVariants.{Bounded, Reduced}
+use Rattle.walk_items.proofs.Filters.{filter_twice}
+use Rattle.walk.specs.declared.{found.Found.Found, path.Node.Node, path.Path.Path}
 use Rattle.walk.specs.inner.Paths.{is_preempting, preempts_last, state_at, IsNode}
 use Rattle.walk.specs.inner.WalkerInvariant.{item_of, left_above, is_kept_at, is_past_at}
 use Rattle.walk.specs.inner.WalkerInvariant.{IsWithinAt, IsFree, at_bound, IsAtBound, IsSearch}
 use Rattle.walk.specs.inner.WalkerInvariant.{HasPut, IsShared, IsWalkedOn, open_here, open_below}
-use Rattle.walk_items.proofs.Filters.{filter_twice}
-use Rattle.walk.proofs.SharedSteps.{shared_same}
-use Rattle.walk.proofs.WalkTurns.{filter_alike, kept_alike}
-use Rattle.walk.proofs.Expansions.{AreOn, node_of, past_deferred, IsTurned, place_turned, left_turned}
-use Rattle.walk.proofs.Expansions.{here_turned, of_here, turned_here}
+use Rattle.walk.proofs.Expansions.{AreOn, node_of, past_deferred, IsTurned, place_turned, left_turned, here_turned, of_here, turned_here}
+use Rattle.walk.proofs.{SharedSteps.shared_same, WalkTurns.{filter_alike, kept_alike}}
+use Rattle.walk_summary.specs.Summaries.{with_beyond}
 
 -- a number stands once among those from a first one on
 

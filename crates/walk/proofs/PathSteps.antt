@@ -1,32 +1,22 @@
 -- The path of a walk, as a frame is pushed, frames are popped, and it is extended by a run.
-use Rattle.std.proofs.Common.{◌≡◌, ℕ, ℤ, zero, suc, ◌+◌, ◌-◌, ◌*◌, ◌<◌, ◌≤◌}
-use Rattle.std.proofs.Common.{not, ◌&&◌, nat_eq, List, [], ◌∷◌, ◌++◌, length, take, drop}
-use Rattle.std.proofs.Common.{Some, None, Option, refl, ap, ◌∙◌, sym, subst}
-use Rattle.std.proofs.Common.{arith, inl, inr}
-use Rattle.std.proofs.Math.Nat.{mul-le-mul_right}
-use Rattle.std.proofs.Math.Path.{transport}
-use Rattle.std.proofs.lemmas.Bool.{cases_order}
-use Rattle.std.proofs.lemmas.List.{drop-take, length-append, length-take, length-take-le, get_or-take, take-take}
-use Rattle.std.proofs.lemmas.List.{get_or_append_left}
-use Rattle.std.proofs.Math.Seq.{take-length, get_or-append_seam}
+use Rattle.std.proofs.Common.{◌≡◌, ℕ, ℤ, zero, suc, ◌+◌, ◌-◌, ◌*◌, ◌<◌, ◌≤◌, not, ◌&&◌, nat_eq}
+use Rattle.std.proofs.Common.{List, [], ◌∷◌, ◌++◌, length, take, drop, Some, None, Option, refl, ap}
+use Rattle.std.proofs.Common.{◌∙◌, sym, subst, arith, inl, inr}
+use Rattle.std.proofs.Math.{Nat.mul-le-mul_right, Path.transport}
+use Rattle.std.proofs.{Math.Seq.{take-length, get_or-append_seam}, lemmas.Bool.cases_order}
+use Rattle.std.proofs.lemmas.List.{drop-take, length-append, length-take, length-take-le, get_or-take, take-take, get_or_append_left}
 use Rattle.guest_code.specs.Program.{Program}
+use Rattle.semantics.specs.{Machine.Snapshot, Mask.{HasEnabled, members_from}}
 use Rattle.semantics.specs.declared.mask.Mask.{Mask}
-use Rattle.semantics_machine.specs.declared.machine.Machine.{Machine}
+use Rattle.semantics_machine.specs.{Refinement.{Shows, IsShown}, declared.machine.Machine.Machine}
 use Rattle.semantics_machine.specs.declared.machine.Shape.{Shape}
-use Rattle.semantics.specs.Machine.{Snapshot}
-use Rattle.semantics.specs.Mask.{HasEnabled, members_from}
-use Rattle.semantics_machine.specs.Refinement.{Shows, IsShown}
-use Rattle.semantics_schedules.specs.Schedules.{preempts}
-use Rattle.semantics_schedules.specs.Execution.{Reaches}
-use Rattle.walk.proofs.Words.{chunk_inside, Rewrites}
-use Rattle.walk.specs.declared.path.Frame.{Frame}
-use Rattle.walk.specs.declared.path.Path.{Path}
-use Rattle.walk.specs.declared.path.Node.{Node}
-use Rattle.walk_items.specs.declared.mode.Mode.{Mode}
+use Rattle.semantics_schedules.specs.{Execution.Reaches, Schedules.preempts}
+use Rattle.walk.specs.declared.path.{Frame.Frame, Node.Node, Path.Path}
 use Rattle.walk.specs.inner.Paths.{used_frames, words_at, state_at, ReachesNode, preempts_last}
 use Rattle.walk.specs.inner.Paths.{IsPath, IsCopy, AreCopies, frame_at, no_frame}
 use Rattle.walk.specs.inner.WalkerInvariant.{open_at, open_from, left_above, still_open, here}
-use Rattle.walk_items.specs.Children.{children_of}
+use Rattle.walk.proofs.Words.{chunk_inside, Rewrites}
+use Rattle.walk_items.specs.{Children.children_of, declared.mode.Mode.Mode}
 
 -- the words
 

@@ -1,10 +1,8 @@
 -- What is put off, where it is listed.
 use Rattle.std.proofs.Common.{◌≡◌, List, ◌++◌, ℕ, ap, ◌∙◌, sym, append_assoc, []}
 use Rattle.std.proofs.lemmas.List.{append-nil}
-use Rattle.walk_items.specs.Walks.{listed_if}
-use Rattle.walk_items.proofs.Listed.{listed_none, listed_both}
-use Rattle.walk.specs.declared.found.Found.{Found}
-use Rattle.walk.specs.inner.WalkerInvariant.{HasPut}
+use Rattle.walk_items.{specs.Walks.listed_if, proofs.Listed.{listed_none, listed_both}}
+use Rattle.walk.specs.{declared.found.Found.Found, inner.WalkerInvariant.HasPut}
 
 -- nothing was put off
 pub put_none : (f g : Found) → g.lists ≡ f.lists → g.deferred ≡ f.deferred → HasPut f [] g

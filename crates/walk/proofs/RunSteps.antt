@@ -1,28 +1,21 @@
 -- A run of a thread: the nodes that its steps lead to.
 use Rattle.std.proofs.Common.{◌≡◌, ℕ, zero, suc, ◌+◌, ◌-◌, ◌<◌, ◌≤◌, Bool, true, false, ◌&&◌, not}
-use Rattle.std.proofs.Common.{nat_eq, List, [], ◌∷◌, ◌++◌, length, take, replicate, Some}
-use Rattle.std.proofs.Common.{refl, ap, ◌∙◌, sym, subst, arith, append_assoc}
-use Rattle.std.proofs.Math.Path.{transport}
-use Rattle.std.proofs.Math.Seq.{take-append_seam}
+use Rattle.std.proofs.Common.{nat_eq, List, [], ◌∷◌, ◌++◌, length, take, replicate, Some, refl, ap}
+use Rattle.std.proofs.Common.{◌∙◌, sym, subst, arith, append_assoc}
+use Rattle.std.proofs.Math.{Path.transport, Seq.take-append_seam}
 use Rattle.std.proofs.lemmas.Bool.Decides.{nat_tests}
 use Rattle.std.proofs.lemmas.List.{replicate_more, replicate-append-replicate, length-replicate}
 use Rattle.std.proofs.lemmas.List.{length-append, take_at}
 use Rattle.std.proofs.lemmas.List.Elements.{All-map}
-use Rattle.guest_code.specs.declared.limits.TheConstants.{COUNT}
-use Rattle.guest_code.specs.Program.{Program, IsWellFormed}
-use Rattle.semantics.specs.declared.mask.Mask.{Mask}
+use Rattle.guest_code.specs.{Program.{Program, IsWellFormed}, declared.limits.TheConstants.COUNT}
 use Rattle.semantics.specs.Machine.{Snapshot, start, step, is_enabled}
-use Rattle.semantics.specs.Mask.{HasEnabled, one_if}
-use Rattle.semantics.specs.Reachable.{IsOf}
+use Rattle.semantics.specs.{Mask.{HasEnabled, one_if}, Reachable.IsOf, declared.mask.Mask.Mask}
 use Rattle.semantics.proofs.StepsKeepStates.{start_is_of}
-use Rattle.semantics_schedules.specs.Schedules.{state_after, runs, preempts}
-use Rattle.semantics_schedules.specs.Execution.{Reaches}
-use Rattle.semantics_schedules.proofs.Executions.{reaches_parts}
-use Rattle.semantics_schedules.proofs.RunsKeepStates.{run_is_of}
+use Rattle.semantics_schedules.specs.{Execution.Reaches, Schedules.{state_after, runs, preempts}}
+use Rattle.semantics_schedules.proofs.{Executions.reaches_parts, RunsKeepStates.run_is_of}
 use Rattle.semantics_schedules.proofs.UnfoldingUnderPrefix.{state_after-push}
 use Rattle.semantics_machine.specs.Refinement.{Shows}
-use Rattle.walk.specs.declared.path.Path.{Path}
-use Rattle.walk.specs.declared.path.Node.{Node}
+use Rattle.walk.specs.declared.path.{Node.Node, Path.Path}
 use Rattle.walk.specs.inner.Paths.{IsPath, ReachesNode, used_frames, state_at}
 use Rattle.walk.proofs.PathSteps.{path_on}
 

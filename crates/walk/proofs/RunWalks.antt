@@ -1,43 +1,30 @@
 -- A walk along a run: at each node between its steps those of the other threads are put off.
-use Rattle.std.proofs.Common.{◌≡◌, ◌≢◌, ℕ, zero, suc, ◌+◌, ◌-◌, ◌<◌, ◌≤◌, Bool, true, false, ◌&&◌, ◌||◌, not}
-use Rattle.std.proofs.Common.{List, [], ◌∷◌, ◌++◌, length, take, map, replicate, Some, nat_eq}
-use Rattle.std.proofs.Common.{get_or, refl, ap, ◌∙◌, sym, subst, arith, ◌⊎◌, inl, inr}
-use Rattle.std.proofs.lemmas.Bool.{false≢true, cases_lt, not-true}
-use Rattle.std.proofs.lemmas.Bool.Decides.{nat_tests}
-use Rattle.std.proofs.lemmas.List.{take_all, take_more, append-nil, length-append}
-use Rattle.std.proofs.lemmas.List.{length-replicate}
-use Rattle.std.specs.declared.alloc.Global.{Global}
-use Rattle.std.specs.declared.vec.Vec.{Vec}
-use Rattle.guest_code.specs.Program.{Program}
-use Rattle.semantics.specs.declared.mask.Mask.{Mask}
-use Rattle.semantics.specs.Ends.{is_empty}
-use Rattle.semantics.specs.Machine.{Snapshot, start, is_enabled}
+use Rattle.std.proofs.Common.{◌≡◌, ◌≢◌, ℕ, zero, suc, ◌+◌, ◌-◌, ◌<◌, ◌≤◌, Bool, true, false, ◌&&◌, ◌||◌, not, List, [], ◌∷◌, ◌++◌, length, take, map, replicate, Some, nat_eq, get_or, refl, ap, ◌∙◌, sym, subst, arith, ◌⊎◌, inl, inr}
+use Rattle.std.specs.declared.{alloc.Global.Global, vec.Vec.Vec}
+use Rattle.std.proofs.lemmas.Bool.{false≢true, cases_lt, not-true, Decides.nat_tests}
+use Rattle.std.proofs.lemmas.List.{take_all, take_more, append-nil, length-append, length-replicate}
+use Rattle.guest_code.specs.{Program.Program, declared.limits.TheConstants.THREADS}
+use Rattle.semantics.specs.{Ends.is_empty, Machine.{Snapshot, start, is_enabled}}
 use Rattle.semantics.specs.Mask.{has, members_from, mask_of, HasEnabled}
-use Rattle.guest_code.specs.declared.limits.TheConstants.{THREADS}
-use Rattle.semantics.specs.Reachable.{IsOf}
-use Rattle.semantics.specs.Work.{work}
+use Rattle.semantics.specs.{Reachable.IsOf, Work.work, declared.mask.Mask.Mask}
 use Rattle.semantics.proofs.Masks.{has-mask_of, has-above, mask_of-fits}
 use Rattle.semantics.proofs.WorkFalls.{work-step, disabled_past}
 use Rattle.semantics_schedules.proofs.UnfoldingUnderPrefix.{state_after-push}
 use Rattle.semantics_machine.specs.declared.machine.Run.{Run}
 use Rattle.walk_summary.specs.Summaries.{with_beyond}
-use Rattle.walk_items.specs.declared.mode.Mode.{Mode}
-use Rattle.walk_items.specs.declared.mode.Mode.TheVariants.{Bounded, Reduced}
-use Rattle.walk_items.specs.Items.{ItemView}
-use Rattle.walk_items.specs.Walks.{listed_if}
 use Rattle.walk_items.specs.Children.{child_of, mask_after, cost_of, costs}
+use Rattle.walk_items.specs.{Items.ItemView, Walks.listed_if, declared.mode.Mode.Mode}
+use Rattle.walk_items.specs.declared.mode.Mode.TheVariants.{Bounded, Reduced}
 use Rattle.walk_items.proofs.Turns.{turns_more}
-use Rattle.walk.specs.declared.found.Found.{Found}
-use Rattle.walk.specs.declared.path.Path.{Path}
+use Rattle.walk.specs.declared.{found.Found.Found, path.Path.Path}
 use Rattle.walk.specs.inner.Paths.{used_frames, state_at, IsNode, IsPath, ReachesNode}
 use Rattle.walk.specs.inner.WalkerInvariant.{item_of, here, left_above, at_bound, open_here}
 use Rattle.walk.specs.inner.WalkerInvariant.{open_below, turns_from, turns_into, IsPlace, IsShared}
 use Rattle.walk.specs.inner.WalkerInvariant.{HasPut, IsWalkedOn, IsSearch, IsAlong, IsExtended}
-use Rattle.walk.proofs.SharedSteps.{shared_entered}
-use Rattle.walk.proofs.PathSteps.{path_same}
-use Rattle.walk.proofs.RunSteps.{run_take, run_push, reached_of}
 use Rattle.walk.proofs.Expansions.{IsTurned, search_turned, here_turned, left_turned}
 use Rattle.walk.proofs.LoneSteps.{and_left, and_right, at_bound_is, lone_walked}
+use Rattle.walk.proofs.{PathSteps.path_same, RunSteps.{run_take, run_push, reached_of}}
+use Rattle.walk.proofs.SharedSteps.{shared_entered}
 
 -- the node after the first step is the child to which the branch was taken
 

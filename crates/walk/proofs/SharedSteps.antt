@@ -1,14 +1,12 @@
 -- What the steps of a walk share with the prefix that was put off last.
 use Rattle.std.proofs.Common.{◌≡◌, ℕ, ◌+◌, ◌-◌, ◌<◌, ◌≤◌, List, [], ◌∷◌, ◌++◌, length, take, drop}
 use Rattle.std.proofs.Common.{set, get_or, vec_len, refl, ap, ◌∙◌, sym, subst, arith}
+use Rattle.std.specs.declared.{alloc.Global.Global, vec.Vec.Vec}
 use Rattle.std.proofs.lemmas.List.{length_push, length-take-le, take-append-drop, take-append-le}
 use Rattle.std.proofs.lemmas.List.{take-take, take_all, take_at, take_more_set, drop-take}
 use Rattle.std.proofs.lemmas.List.{get_or_at}
-use Rattle.std.specs.declared.alloc.Global.{Global}
-use Rattle.std.specs.declared.vec.Vec.{Vec}
-use Rattle.walk.specs.declared.found.Found.{Found}
+use Rattle.walk.specs.{declared.found.Found.Found, inner.WalkerInvariant.IsShared}
 use Rattle.walk_prefixes.specs.PrefixLists.{last_of}
-use Rattle.walk.specs.inner.WalkerInvariant.{IsShared}
 
 -- the same of the same steps
 pub shared_same : (w v : List ℕ) (f : Found) → IsShared w f → v ≡ w → IsShared v f

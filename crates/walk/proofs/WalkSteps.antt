@@ -1,29 +1,21 @@
 -- What a turn does to the walk of an item: the first open item gives way to its children, or is
 -- tried.
-use Rattle.std.proofs.Common.{◌≡◌, ℕ, Bool, true, false, ◌||◌, List, [], ◌∷◌, ◌++◌, ap, ◌∙◌}
-use Rattle.std.proofs.Common.{sym, subst}
-use Rattle.std.proofs.lemmas.List.{append-nil}
-use Rattle.std.proofs.lemmas.List.Elements.{All-head}
+use Rattle.std.proofs.Common.{◌≡◌, ℕ, Bool, true, false, ◌||◌, List, [], ◌∷◌, ◌++◌, ap, ◌∙◌, sym}
+use Rattle.std.proofs.Common.{subst}
+use Rattle.std.proofs.lemmas.List.{append-nil, Elements.All-head}
 use Rattle.guest_code.specs.Program.{Program}
-use Rattle.semantics.specs.Reachable.{IsOf}
-use Rattle.semantics.specs.Machine.{Snapshot}
-use Rattle.semantics.specs.Ends.{is_terminal, is_empty, enabled}
+use Rattle.semantics.specs.{Ends.{is_terminal, is_empty, enabled}, Machine.Snapshot, Reachable.IsOf}
 use Rattle.semantics_schedules.specs.Order.{end_of}
-use Rattle.walk_items.specs.declared.mode.Mode.{Mode}
+use Rattle.walk_items.specs.Children.{state_of, IsWithin, passes_bound, children, past_children}
+use Rattle.walk_items.specs.Items.{ItemView, IsItem}
+use Rattle.walk_items.specs.{Walks.{WalkView, IsWalked, IsBelow, items_at}, declared.mode.Mode.Mode}
+use Rattle.walk_items.proofs.ItemsWalked.{leaf_walked, node_walked}
+use Rattle.walk_items.proofs.Splits.{first_within, split_kept, walked_further}
 use Rattle.walk_summary.specs.Summaries.{SummaryView, IsSummary, nothing, sum_of, join, with_beyond}
 use Rattle.walk_summary.specs.Summaries.{added}
-use Rattle.walk_items.specs.Items.{ItemView, IsItem}
-use Rattle.walk_items.specs.Walks.{WalkView, IsWalked, IsBelow}
-use Rattle.walk_items.specs.Children.{state_of, IsWithin, passes_bound, children, past_children}
-use Rattle.walk.specs.declared.found.Found.{Found}
-use Rattle.walk_items.specs.Walks.{items_at}
+use Rattle.walk_summary.proofs.{PartsJoin.{join_past, join_leaf}, SumsJoin.{join_assoc, join_kept}}
+use Rattle.walk.specs.{declared.found.Found.Found, inner.WalkerInvariant.IsWalkedOn}
 use Rattle.walk.proofs.Puts.{put_same}
-use Rattle.walk.specs.inner.WalkerInvariant.{IsWalkedOn}
-use Rattle.walk_items.proofs.Splits.{first_within, split_kept}
-use Rattle.walk_items.proofs.Splits.{walked_further}
-use Rattle.walk_items.proofs.ItemsWalked.{leaf_walked, node_walked}
-use Rattle.walk_summary.proofs.PartsJoin.{join_past, join_leaf}
-use Rattle.walk_summary.proofs.SumsJoin.{join_assoc, join_kept}
 
 -- a walk of these parts
 abbrev pub walk_of : Mode → ItemView → SummaryView → List ItemView → List ItemView → WalkView

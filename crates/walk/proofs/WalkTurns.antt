@@ -1,32 +1,22 @@
 -- What is still open after one turn of a walk.
 use Rattle.std.proofs.Common.{◌≡◌, ℕ, ◌+◌, ◌-◌, ◌<◌, Bool, true, ◌&&◌, List, [], ◌∷◌, ◌++◌, length}
 use Rattle.std.proofs.Common.{map, refl, ap, ◌∙◌, sym, arith, subst, cond, take, nat_le, nat_lt}
-use Rattle.std.specs.List.{filter}
-use Rattle.std.proofs.lemmas.List.{length_push, take_at, get_or_at, map-append}
-use Rattle.guest_code.specs.Program.{Program}
-use Rattle.semantics.specs.Machine.{is_enabled, start}
+use Rattle.std.{specs.List.filter, proofs.lemmas.List.{length_push, take_at, get_or_at, map-append}}
+use Rattle.guest_code.specs.{Program.Program, declared.limits.TheConstants.THREADS}
+use Rattle.semantics.specs.{Ends.enabled, Machine.{is_enabled, start}}
 use Rattle.semantics.specs.Mask.{has, members_from, HasEnabled, one_if}
-use Rattle.guest_code.specs.declared.limits.TheConstants.{THREADS}
-use Rattle.semantics.specs.Reachable.{IsOf}
-use Rattle.semantics.specs.declared.mask.Mask.{Mask}
+use Rattle.semantics.specs.{Reachable.IsOf, Work.up_from, declared.mask.Mask.Mask}
+use Rattle.semantics.proofs.{Masks.members_enabled, WorkFalls.disabled_past}
 use Rattle.semantics_schedules.specs.Schedules.{runs, preempts, preemptions}
-use Rattle.semantics.specs.Ends.{enabled}
-use Rattle.semantics.specs.Work.{up_from}
-use Rattle.semantics.proofs.Masks.{members_enabled}
-use Rattle.semantics.proofs.WorkFalls.{disabled_past}
-use Rattle.semantics_schedules.proofs.UnfoldingUnderPrefix.{preemptions-push}
-use Rattle.semantics_schedules.proofs.Executions.{runs_at}
-use Rattle.walk_items.specs.declared.mode.Mode.{Mode}
-use Rattle.walk.specs.declared.path.Node.{Node}
-use Rattle.walk_items.specs.declared.mode.Mode.TheVariants.{Bounded, Reduced}
-use Rattle.walk_items.specs.Items.{ItemView, item_at}
-use Rattle.walk_items.proofs.Filters.{filter_twice}
-use Rattle.walk.proofs.PathSteps.{preempts_is}
-use Rattle.walk_items.proofs.Children.{reduced_past}
+use Rattle.semantics_schedules.proofs.{Executions.runs_at, UnfoldingUnderPrefix.preemptions-push}
 use Rattle.walk_items.specs.Children.{child_of, children_of, past_children, kept_steps, past_steps}
 use Rattle.walk_items.specs.Children.{is_kept_step, is_past_step}
-use Rattle.walk.specs.inner.Paths.{is_preempting, IsNode, state_at}
+use Rattle.walk_items.specs.{Items.{ItemView, item_at}, declared.mode.Mode.Mode}
+use Rattle.walk_items.specs.declared.mode.Mode.TheVariants.{Bounded, Reduced}
+use Rattle.walk_items.proofs.{Children.reduced_past, Filters.filter_twice}
+use Rattle.walk.specs.{declared.path.Node.Node, inner.Paths.{is_preempting, IsNode, state_at}}
 use Rattle.walk.specs.inner.WalkerInvariant.{item_of, is_kept_at, is_past_at}
+use Rattle.walk.proofs.PathSteps.{preempts_is}
 
 -- the step of an item that is one step further is one of an enabled thread
 pub step_enabled : (p : Program) (w : List ℕ) (t : ℕ) → runs p (start p) (w ++ t ∷ []) ≡ true →

@@ -1,9 +1,8 @@
 -- Words of which each frame has the same number: one frame's are written, the others stay.
 use Rattle.std.proofs.Common.{◌≡◌, ℕ, ℤ, suc, ◌+◌, ◌-◌, ◌*◌, ◌<◌, ◌≤◌, List, ◌++◌, length, take}
 use Rattle.std.proofs.Common.{drop, ap, ◌∙◌, sym, subst, arith}
-use Rattle.std.proofs.Math.Nat.{mul-le-mul_right}
+use Rattle.std.proofs.Math.{Nat.mul-le-mul_right, Seq.take-append_seam}
 use Rattle.std.proofs.lemmas.List.{length-take, length-take-le, length-drop}
-use Rattle.std.proofs.Math.Seq.{take-append_seam}
 use Rattle.walk.specs.inner.Paths.{words_at}
 
 pub chunk_inside : (t n w L : ℕ) → t < n → L ≡ n * w → t * w + w ≤ L

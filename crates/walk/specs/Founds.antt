@@ -1,10 +1,9 @@
 -- What a walk found, and what it adds to what others found.
 use Rattle.std.specs.Prelude.{◌≡◌, ◌≤◌, ◌<◌, ℕ, [], ◌++◌}
 use Rattle.walk_summary.specs.Summaries.{join}
-use Rattle.walk_items.specs.declared.mode.Mode.{Mode}
 use Rattle.walk_items.specs.Items.{ItemView}
-use Rattle.walk_items.specs.Walks.{WalkView, IsWalked, IsPastBound, walk_view, walk_past_bound, items_at}
-use Rattle.walk_items.specs.Walks.{listed_if}
+use Rattle.walk_items.specs.Walks.{WalkView, IsWalked, IsPastBound, walk_view, walk_past_bound, items_at, listed_if}
+use Rattle.walk_items.specs.declared.mode.Mode.{Mode}
 use Rattle.walk.specs.declared.found.Found.{Found}
 
 -- what a walk of an item in a mode is that found this

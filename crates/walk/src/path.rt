@@ -2,12 +2,11 @@
 //! copy the states of nodes on the way.
 
 ghost use Rattle.std.specs.Prelude.{◌≡◌, ◌+◌, ◌*◌, ◌-◌, ◌<◌, ◌≤◌, ◌^◌, ◌++◌, ℕ, true, false, None, IfOk, OnOk, length, take, replicate, vec_len, vec_capacity};
-ghost use Rattle.semantics.specs.Machine.{start, is_enabled};
+ghost use Rattle.semantics.specs.{Machine.{start, is_enabled}, Mask.one_if};
 ghost use Rattle.semantics_schedules.specs.Schedules.{runs};
-ghost use Rattle.semantics.specs.Mask.{one_if};
 ghost use Rattle.walk.specs.inner.Paths.{IsPath, used_frames, frame_at, is_preempting, state_at};
-ghost use Rattle.walk_items.specs.declared.mode.Mode.{Mode};
 ghost use Rattle.walk.specs.inner.WalkerInvariant.{IsPushed, IsExtended, left_above, still_open, at_bound};
+ghost use Rattle.walk_items.specs.declared.mode.Mode.{Mode};
 
 use guest_code::laws::programs_are_well_formed;
 use guest_code::limits::INSTRUCTIONS;

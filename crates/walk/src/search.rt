@@ -2,14 +2,11 @@
 
 ghost use Rattle.std.specs.Prelude.{◌≡◌, ◌+◌, ◌-◌, ◌++◌, ◌∷◌, ◌<◌, ◌≤◌, ◌&&◌, ◌||◌, not, [], ℕ, true, false, map, IfOk, Some, OnOk, IsTrue, IsFalse, length, take, min, All};
 ghost use Rattle.guest_code.specs.declared.limits.TheConstants.{THREADS};
-ghost use Rattle.semantics.specs.Ends.{is_empty};
-ghost use Rattle.semantics.specs.Machine.{is_enabled};
+ghost use Rattle.semantics.specs.{Ends.is_empty, Machine.is_enabled};
 ghost use Rattle.semantics.specs.Mask.{has, members_from, no_threads};
-ghost use Rattle.walk_items.specs.Items.{IsItem};
+ghost use Rattle.walk_items.specs.{Children.{child_of, mask_after, cost_of}, Items.IsItem};
 ghost use Rattle.walk_summary.specs.Summaries.{with_beyond, greatest_count};
-ghost use Rattle.walk_items.specs.Children.{child_of, mask_after, cost_of};
-ghost use Rattle.walk.specs.inner.Paths.{IsPath, used_frames, state_at};
-ghost use Rattle.walk.specs.Founds.{HasAdded};
+ghost use Rattle.walk.specs.{Founds.HasAdded, inner.Paths.{IsPath, used_frames, state_at}};
 ghost use Rattle.walk.specs.inner.WalkerInvariant.{IsPlace, Searches, GoesOn, IsPushedIfOpen, here, open_here, open_below, still_open, turns_left, turns_from, turns_into, turns_next, open_next, is_kept_at, is_past_at, is_past_here, IsFree, at_bound, IsShared, HasPut};
 
 use crate::found::Found;

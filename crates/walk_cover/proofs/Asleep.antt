@@ -1,35 +1,28 @@
 -- Who sleeps along a prefix.
-use Rattle.std.proofs.Common.{◌≡◌, ◌⊎◌, inl, inr, ℕ, ◌+◌, ◌<◌, Bool, true, false, not, List}
-use Rattle.std.proofs.Common.{[], ◌∷◌, ◌++◌, length, take, drop, get_or, refl, ap, ◌∙◌, sym, subst}
+use Rattle.std.proofs.Common.{◌≡◌, ◌⊎◌, inl, inr, ℕ, ◌+◌, ◌<◌, Bool, true, false, not, List, []}
+use Rattle.std.proofs.Common.{◌∷◌, ◌++◌, length, take, drop, get_or, refl, ap, ◌∙◌, sym, subst}
 use Rattle.std.proofs.Common.{arith}
-use Rattle.std.specs.List.{filter}
-use Rattle.std.proofs.lemmas.Bool.{and_parts, cases_order}
+use Rattle.std.{specs.List.filter, proofs.lemmas.Bool.{and_parts, cases_order}}
 use Rattle.std.proofs.lemmas.List.{drop_more, take_more, take_all, take-append-drop}
 use Rattle.std.proofs.lemmas.List.Elements.{All-head}
 use Rattle.guest_code.specs.Program.{Program}
+use Rattle.semantics.specs.{Ends.is_terminal, Machine.{Snapshot, start, step, is_enabled}}
+use Rattle.semantics.specs.{Mask.{has, no_threads, mask_of}, Reachable.IsOf, Waiters.In}
 use Rattle.semantics.specs.declared.mask.Mask.{Mask}
-use Rattle.semantics.specs.Mask.{has, no_threads, mask_of}
-use Rattle.semantics.specs.Machine.{Snapshot, start, step, is_enabled}
-use Rattle.semantics.specs.Ends.{is_terminal}
-use Rattle.semantics.specs.Reachable.{IsOf}
-use Rattle.semantics.specs.Waiters.{In}
 use Rattle.semantics.proofs.ListMembers.{in_filter, from_flat_map, from_map, from_filter}
-use Rattle.semantics.proofs.StepsKeepStates.{step_is_of}
-use Rattle.semantics.proofs.TerminalStates.{is_terminal-some}
+use Rattle.semantics.proofs.{StepsKeepStates.step_is_of, TerminalStates.is_terminal-some}
 use Rattle.semantics_schedules.specs.Schedules.{runs, state_after, begins_with}
 use Rattle.semantics_schedules.specs.Sleep.{next_sleep_set}
 use Rattle.semantics_schedules.proofs.ReducedSchedules.{never_before_itself}
 use Rattle.semantics_schedules.proofs.SchedulesUnderPrefix.{begins_longer, begins_further, smaller_first}
 use Rattle.semantics_schedules.proofs.UnfoldingUnderPrefix.{state_after-push}
-use Rattle.walk_items.specs.declared.mode.Mode.TheVariants.{Bounded, Reduced}
+use Rattle.walk_items.specs.Children.{child_of, children, next_steps, is_kept_step}
 use Rattle.walk_items.specs.Items.{ItemView, IsItem, item_at, root_of, state_of, schedules_of}
 use Rattle.walk_items.specs.Walks.{IsBelow, HasItsOf}
-use Rattle.walk_items.specs.Children.{child_of, children, next_steps, is_kept_step}
+use Rattle.walk_items.specs.declared.mode.Mode.TheVariants.{Bounded, Reduced}
 use Rattle.walk_items.proofs.Children.{begins_own, child_below, children_schedules}
 use Rattle.walk_items.proofs.Filters.{filter_same, filter_none}
-use Rattle.walk_items.proofs.Reduced.{child_keeps}
-use Rattle.walk_items.proofs.Splits.{below_further}
-use Rattle.walk_items.proofs.WalkedItems.{bounded_has}
+use Rattle.walk_items.proofs.{Reduced.child_keeps, Splits.below_further, WalkedItems.bounded_has}
 use Rattle.walk_cover.specs.Under.{IsUnder, HasNoneUnder, IsAsleepAfter}
 use Rattle.walk_cover.proofs.Covers.{self_cover, has_further}
 

@@ -1,43 +1,35 @@
 -- The way from the program to a cover by listed prefixes, and what is wrong where there is none.
-use Rattle.std.proofs.Common.{◌≡◌, inl, inr, ℕ, ◌+◌, ◌<◌, ◌≤◌, Bool, true, false, cond}
-use Rattle.std.proofs.Common.{List, [], ◌∷◌, ◌++◌, map, take, refl, ap, ◌∙◌, sym, subst, arith}
-use Rattle.std.proofs.Common.{append_assoc, IsPermutation}
-use Rattle.std.specs.List.{All, Contains, filter}
-use Rattle.std.proofs.lemmas.Bool.Decides.{nat_tests}
+use Rattle.std.proofs.Common.{◌≡◌, inl, inr, ℕ, ◌+◌, ◌<◌, ◌≤◌, Bool, true, false, cond, List, []}
+use Rattle.std.proofs.Common.{◌∷◌, ◌++◌, map, take, refl, ap, ◌∙◌, sym, subst, arith, append_assoc}
+use Rattle.std.proofs.Common.{IsPermutation}
+use Rattle.std.{specs.List.{All, Contains, filter}, proofs.lemmas.Bool.Decides.nat_tests}
 use Rattle.std.proofs.lemmas.List.{append-nil, take-append-drop}
 use Rattle.std.proofs.lemmas.List.Elements.{All-nil, All-cons, All-push}
 use Rattle.std.proofs.lemmas.List.Sorted.{IsPermutation-refl, IsPermutation-pop_more}
 use Rattle.std.proofs.lemmas.List.Sorted.{IsPermutation-to_front, All-permutation}
 use Rattle.guest_code.specs.Program.{Program, IsWellFormed}
-use Rattle.semantics.specs.Mask.{one_if}
-use Rattle.semantics.specs.Machine.{start}
-use Rattle.semantics.specs.Ends.{is_terminal}
-use Rattle.semantics.specs.Waiters.{In}
+use Rattle.semantics.specs.{Ends.is_terminal, Machine.start, Mask.one_if, Waiters.In}
 use Rattle.semantics.proofs.ListMembers.{in_contains, contains_in, in_left, in_right, in_either}
 use Rattle.semantics.proofs.ListMembers.{in_map, from_map, from_filter, in_filter}
-use Rattle.semantics_schedules.specs.declared.limits.TheConstants.{STEPS}
 use Rattle.semantics_schedules.specs.Schedules.{begins_with, preemptions}
-use Rattle.semantics_schedules.proofs.SchedulesUnderPrefix.{begin_both, begins_further, begins_longer}
+use Rattle.semantics_schedules.specs.declared.limits.TheConstants.{STEPS}
 use Rattle.semantics_schedules.proofs.ReducedSchedules.{from_enabled}
+use Rattle.semantics_schedules.proofs.SchedulesUnderPrefix.{begin_both, begins_further, begins_longer}
 use Rattle.semantics_schedules.proofs.UnfoldingUnderPrefix.{runs-push}
-use Rattle.walk_items.specs.declared.mode.Mode.{Mode}
-use Rattle.walk_items.specs.declared.mode.Mode.TheVariants.{Bounded, Reduced}
-use Rattle.walk_items.specs.Items.{ItemView, root_of, state_of, everything, covers}
-use Rattle.walk_items.specs.Walks.{IsBelow, HasItsOf}
 use Rattle.walk_items.specs.Children.{child_of, children_of, children, next_steps, costs, is_kept_step}
-use Rattle.walk_items.proofs.Covers.{covers-append}
-use Rattle.walk_items.proofs.Filters.{filter_same, filter_none}
+use Rattle.walk_items.specs.Items.{ItemView, root_of, state_of, everything, covers}
+use Rattle.walk_items.specs.{Walks.{IsBelow, HasItsOf}, declared.mode.Mode.Mode}
+use Rattle.walk_items.specs.declared.mode.Mode.TheVariants.{Bounded, Reduced}
+use Rattle.walk_items.proofs.{Covers.covers-append, Filters.{filter_same, filter_none}}
 use Rattle.walk_items.proofs.Permutations.{covers-permutation}
 use Rattle.walk_items.proofs.Turns.{costs-append, cost_two, children_cost, preemptions_limit}
-use Rattle.walk_cover.specs.Covers.{IsCover}
-use Rattle.walk_cover.specs.Prefixes.{is_entered, longer, further, IsComplete}
 use Rattle.walk_cover.specs.CoverBy.{IsCoverBy, IsMissing, AreNested, IsUnused, CoverErrorMeans}
+use Rattle.walk_cover.specs.{Covers.IsCover, Prefixes.{is_entered, longer, further, IsComplete}}
 use Rattle.walk_cover.specs.declared.covering.CoverError.{CoverError}
 use Rattle.walk_cover.specs.declared.covering.CoverError.TheVariants.{Missing, Nested, Unused, OutOfMemory}
 use Rattle.walk_cover.specs.inner.Reached.{IsFirst, IsReached, IsBare, IsOther}
 use Rattle.walk_cover.proofs.Covers.{self_cover, further_cover, below_is_of, none_below, its_all, has_all}
-use Rattle.walk_cover.proofs.Lengths.{complete_schedule}
-use Rattle.walk_cover.proofs.Listed.{all_in, in_all, begins_push}
+use Rattle.walk_cover.proofs.{Lengths.complete_schedule, Listed.{all_in, in_all, begins_push}}
 
 -- covers, in another order and with an item in parts
 

@@ -11,33 +11,22 @@ use Rattle.std.proofs.lemmas.List.Sorted.{IsPermutation-refl, IsPermutation-sym}
 use Rattle.std.proofs.lemmas.List.Sorted.{IsPermutation-filter_both, All-permutation}
 use Rattle.std.proofs.lemmas.List.Sorted.{list_any-IsPermutation, IsPermutation-map}
 use Rattle.std.proofs.lemmas.List.Sorted.{Contains-permutation}
-use Rattle.guest_code.specs.Program.{Program, IsWellFormed}
-use Rattle.guest_code.specs.declared.limits.TheConstants.{COUNT}
-use Rattle.semantics.specs.Mask.{one_if}
-use Rattle.semantics.specs.Machine.{start}
-use Rattle.semantics.specs.Ends.{is_terminal}
-use Rattle.semantics.specs.Reachable.{IsOf}
-use Rattle.semantics.specs.Waiters.{In}
-use Rattle.semantics.proofs.ListMembers.{contains_in, in_contains, in_filter}
+use Rattle.guest_code.specs.{Program.{Program, IsWellFormed}, declared.limits.TheConstants.COUNT}
+use Rattle.semantics.specs.{Ends.is_terminal, Machine.start, Mask.one_if, Reachable.IsOf}
+use Rattle.semantics.{specs.Waiters.In, proofs.ListMembers.{contains_in, in_contains, in_filter}}
 use Rattle.semantics.proofs.StepsKeepStates.{start_is_of}
-use Rattle.semantics_schedules.specs.Schedules.{begins_with, preemptions, schedules_under, exceeds_bound}
-use Rattle.semantics_schedules.specs.Schedules.{runs, state_after}
 use Rattle.semantics_schedules.specs.Order.{is_complete}
+use Rattle.semantics_schedules.specs.Schedules.{begins_with, preemptions, schedules_under, exceeds_bound, runs, state_after}
 use Rattle.semantics_schedules.specs.Sleep.{is_kept, none_asleep}
 use Rattle.semantics_schedules.proofs.KeptSchedules.{reduced_members, kept_complete}
-use Rattle.semantics_schedules.proofs.StatedLaws.{complete}
 use Rattle.semantics_schedules.proofs.RunsKeepStates.{run_is_of}
-use Rattle.semantics_schedules.proofs.SchedulesUnderPrefix.{begins_further, begins_itself, in_within, in_under}
-use Rattle.semantics_schedules.proofs.SchedulesUnderPrefix.{schedules_under-longer}
-use Rattle.walk_items.specs.declared.mode.Mode.{Mode}
-use Rattle.walk_items.specs.declared.mode.Mode.TheVariants.{Bounded, Reduced}
-use Rattle.walk_summary.specs.Summaries.{SummaryView, nothing, sum_of, with_beyond}
-use Rattle.walk_summary.proofs.SumsJoin.{sum_of_none}
+use Rattle.semantics_schedules.proofs.SchedulesUnderPrefix.{begins_further, begins_itself, in_within, in_under, schedules_under-longer}
+use Rattle.semantics_schedules.proofs.StatedLaws.{complete}
+use Rattle.walk_items.specs.Children.{next_steps, kept_steps, past_steps, is_kept_step, is_past_step, children, past_children, children_of, child_of}
 use Rattle.walk_items.specs.Items.{ItemView, IsItem, state_of, root_of, schedules_of, everything}
 use Rattle.walk_items.specs.Items.{goes_beyond, item_sum, item_sums, covers, is_under}
-use Rattle.walk_items.specs.Walks.{IsBelow, HasItsOf}
-use Rattle.walk_items.specs.Children.{next_steps, kept_steps, past_steps, is_kept_step, is_past_step}
-use Rattle.walk_items.specs.Children.{children, past_children, children_of, child_of}
+use Rattle.walk_items.specs.{Walks.{IsBelow, HasItsOf}, declared.mode.Mode.Mode}
+use Rattle.walk_items.specs.declared.mode.Mode.TheVariants.{Bounded, Reduced}
 use Rattle.walk_items.proofs.Children.{begins_all, under_all, children_all, children_apart}
 use Rattle.walk_items.proofs.Children.{children_below, children_pruned, reduced_past, past_is}
 use Rattle.walk_items.proofs.Covers.{at_most_one, covers-append}
@@ -45,8 +34,9 @@ use Rattle.walk_items.proofs.Filters.{filter_all, filter_longer, filter_whole}
 use Rattle.walk_items.proofs.Permutations.{sum_of-permutation, covers-permutation}
 use Rattle.walk_items.proofs.Splits.{below_further}
 use Rattle.walk_items.proofs.WalkedItems.{bounded_has, joined_is, past_none, past_beyond, root_pruned}
-use Rattle.walk_cover.specs.Covers.{IsCover}
-use Rattle.walk_cover.specs.Prefixes.{longer, further, prefixes_of}
+use Rattle.walk_summary.specs.Summaries.{SummaryView, nothing, sum_of, with_beyond}
+use Rattle.walk_summary.proofs.SumsJoin.{sum_of_none}
+use Rattle.walk_cover.specs.{Covers.IsCover, Prefixes.{longer, further, prefixes_of}}
 use Rattle.walk_cover.proofs.Gathered.{under_item, gathered, any_gathered}
 
 -- of all that begins with an item's prefix, one below it has what begins with its own

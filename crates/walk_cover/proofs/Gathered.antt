@@ -1,14 +1,9 @@
 -- A list whose members each begin with the prefix of exactly one item: gathered by items it is the
 -- same, but for the order.
-use Rattle.std.proofs.Common.{◌≡◌, ℕ, ◌+◌, Bool, true, false, ◌||◌, cond, List, [], ◌∷◌, ◌++◌, refl, ap}
-use Rattle.std.proofs.Common.{◌∙◌, sym, subst, arith, append_assoc, inl, inr, IsPermutation}
-use Rattle.std.specs.List.{filter, flat_map, list_any}
-use Rattle.std.proofs.lemmas.List.Folds.{list_any-append}
-use Rattle.std.proofs.lemmas.List.Sorted.{IsPermutation-refl, IsPermutation-trans, IsPermutation-sym}
-use Rattle.std.proofs.lemmas.List.Sorted.{IsPermutation-cons, IsPermutation-append_comm}
-use Rattle.std.proofs.lemmas.List.Sorted.{IsPermutation-append_left, IsPermutation-append_right}
-use Rattle.semantics.specs.Mask.{one_if}
-use Rattle.semantics.specs.Waiters.{In}
+use Rattle.std.proofs.Common.{◌≡◌, ℕ, ◌+◌, Bool, true, false, ◌||◌, cond, List, [], ◌∷◌, ◌++◌, refl, ap, ◌∙◌, sym, subst, arith, append_assoc, inl, inr, IsPermutation}
+use Rattle.std.{specs.List.{filter, flat_map, list_any}, proofs.lemmas.List.Folds.list_any-append}
+use Rattle.std.proofs.lemmas.List.Sorted.{IsPermutation-refl, IsPermutation-trans, IsPermutation-sym, IsPermutation-cons, IsPermutation-append_comm, IsPermutation-append_left, IsPermutation-append_right}
+use Rattle.semantics.specs.{Mask.one_if, Waiters.In}
 use Rattle.semantics_schedules.specs.Schedules.{begins_with}
 use Rattle.walk_items.specs.Items.{ItemView, covers}
 

@@ -1,36 +1,29 @@
 -- What the prefixes of a length are: whatever the bound, schedules cut short; where all are
 -- complete, all schedules; and they rise.
-use Rattle.std.proofs.Common.{◌≡◌, inl, inr, ℕ, zero, suc, ◌<◌, ◌≤◌, Bool, true, false}
-use Rattle.std.proofs.Common.{cond, ◌&&◌, List, [], ◌∷◌, ◌++◌, length, map, refl, ap, ◌∙◌, sym}
-use Rattle.std.proofs.Common.{subst, arith}
-use Rattle.std.specs.List.{All, filter, flat_map}
-use Rattle.std.proofs.lemmas.Grind.{flat_map-append}
+use Rattle.std.proofs.Common.{◌≡◌, inl, inr, ℕ, zero, suc, ◌<◌, ◌≤◌, Bool, true, false, cond, ◌&&◌}
+use Rattle.std.proofs.Common.{List, [], ◌∷◌, ◌++◌, length, map, refl, ap, ◌∙◌, sym, subst, arith}
+use Rattle.std.{specs.List.{All, filter, flat_map}, proofs.lemmas.Grind.flat_map-append}
 use Rattle.std.proofs.lemmas.List.{append-nil, map-append}
-use Rattle.std.proofs.lemmas.List.Folds.{flat_map-map}
 use Rattle.std.proofs.lemmas.List.Elements.{All-head, All-tail, All-weaker, All-contains}
+use Rattle.std.proofs.lemmas.List.Folds.{flat_map-map}
 use Rattle.guest_code.specs.Program.{Program, IsWellFormed}
-use Rattle.semantics.specs.Machine.{Snapshot, start, step, is_enabled}
-use Rattle.semantics.specs.Work.{up_from}
 use Rattle.semantics.specs.Ends.{enabled, is_terminal, is_empty}
-use Rattle.semantics.specs.Waiters.{In}
+use Rattle.semantics.specs.{Machine.{Snapshot, start, step, is_enabled}, Waiters.In, Work.up_from}
 use Rattle.semantics.proofs.ListMembers.{in_contains, in_either, from_map, from_filter, from_flat_map}
+use Rattle.semantics_schedules.specs.Rising.{IsRising}
 use Rattle.semantics_schedules.specs.Schedules.{state_after, before, or_complete, schedules_cut_at}
 use Rattle.semantics_schedules.specs.Schedules.{schedules_under, begins_with}
-use Rattle.semantics_schedules.specs.Rising.{IsRising}
 use Rattle.semantics_schedules.proofs.CompleteSchedulesRise.{Rises, rising}
-use Rattle.semantics_schedules.proofs.SleepSets.{Before}
 use Rattle.semantics_schedules.proofs.ReducedSchedules.{precedes_before}
 use Rattle.semantics_schedules.proofs.SchedulesUnderPrefix.{begins_further, begins_itself, smaller_first}
+use Rattle.semantics_schedules.proofs.SleepSets.{Before}
 use Rattle.semantics_schedules.proofs.UnfoldingUnderPrefix.{schedules_under-more, schedules_under-terminal}
-use Rattle.walk_items.specs.declared.mode.Mode.{Mode}
-use Rattle.walk_items.specs.declared.mode.Mode.TheVariants.{Bounded, Reduced}
-use Rattle.walk_items.specs.Items.{ItemView, IsItem, root_of, state_of, everything}
-use Rattle.walk_items.specs.Walks.{IsBelow, HasItsOf}
 use Rattle.walk_items.specs.Children.{child_of, children_of, next_steps}
-use Rattle.walk_items.proofs.Children.{children_schedules}
-use Rattle.walk_items.proofs.Filters.{filter_all, filter_twice}
-use Rattle.walk_items.proofs.ItemsWalked.{leaf_schedules}
-use Rattle.walk_items.proofs.WalkedItems.{bounded_has}
+use Rattle.walk_items.specs.Items.{ItemView, IsItem, root_of, state_of, everything}
+use Rattle.walk_items.specs.{Walks.{IsBelow, HasItsOf}, declared.mode.Mode.Mode}
+use Rattle.walk_items.specs.declared.mode.Mode.TheVariants.{Bounded, Reduced}
+use Rattle.walk_items.proofs.{Children.children_schedules, Filters.{filter_all, filter_twice}}
+use Rattle.walk_items.proofs.{ItemsWalked.leaf_schedules, WalkedItems.bounded_has}
 use Rattle.walk_cover.specs.Covers.{IsCover}
 use Rattle.walk_cover.specs.Prefixes.{is_entered, longer, further, prefixes_of, IsComplete}
 use Rattle.walk_cover.proofs.Covers.{below_is_of, further_cover, prefixes_cover}

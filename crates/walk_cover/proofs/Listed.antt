@@ -1,18 +1,13 @@
 -- Prefixes in a list and in a set, and who begins with whom.
-use Rattle.std.proofs.Common.{◌≡◌, ◌⊎◌, inl, inr, ℕ, Bool, true, false, ◌&&◌, nat_eq, List, []}
-use Rattle.std.proofs.Common.{◌∷◌, ◌++◌, ◌||◌, map, refl, ap, ◌∙◌, sym}
-use Rattle.std.proofs.Common.{Some, None, unwrap_or, cond}
-use denote.Ref.{Bor}
-use Rattle.std.specs.Cmp.Lexicographic.{slice_cmp, bytes_decides, texts_ties}
-use Rattle.std.specs.Ordering.{is_eq, nat_cmp}
-use Rattle.std.specs.List.{All, list_any, find, starts_with}
+use Rattle.std.proofs.Common.{◌≡◌, ◌⊎◌, inl, inr, ℕ, Bool, true, false, ◌&&◌, nat_eq, List, [], ◌∷◌}
+use Rattle.std.proofs.Common.{◌++◌, ◌||◌, map, refl, ap, ◌∙◌, sym, Some, None, unwrap_or, cond}
 use Rattle.std.specs.BTreeSet.{BTreeSet, IsFromIterResult, contains_by}
-use Rattle.std.proofs.lemmas.Bool.{and_parts, and_from}
-use Rattle.std.proofs.lemmas.List.Elements.{All-contains, All-map}
-use Rattle.semantics.specs.Waiters.{In}
-use Rattle.semantics.proofs.ListMembers.{in_contains, at_in}
-use Rattle.semantics_schedules.specs.Schedules.{begins_with}
-use Rattle.semantics_schedules.proofs.ReducedSchedules.{eq_of}
+use Rattle.std.specs.Cmp.Lexicographic.{slice_cmp, bytes_decides, texts_ties}
+use Rattle.std.specs.{List.{All, list_any, find, starts_with}, Ordering.{is_eq, nat_cmp}}
+use Rattle.std.proofs.lemmas.{Bool.{and_parts, and_from}, List.Elements.{All-contains, All-map}}
+use denote.Ref.{Bor}
+use Rattle.semantics.{specs.Waiters.In, proofs.ListMembers.{in_contains, at_in}}
+use Rattle.semantics_schedules.{specs.Schedules.begins_with, proofs.ReducedSchedules.eq_of}
 
 pub starts : (v u : List ℕ) → starts_with nat_eq v u ≡ begins_with u v
 starts v [] = refl

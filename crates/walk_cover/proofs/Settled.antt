@@ -1,14 +1,12 @@
 -- Where no schedule is beyond a bound, a greater one makes no difference.
-use Rattle.std.proofs.Common.{◌≡◌, ℕ, ◌≤◌, Bool, false, ◌||◌, nat_le, nat_lt, List, [], ◌∷◌}
-use Rattle.std.proofs.Common.{refl, sym, ◌∙◌, arith, inl, inr}
-use Rattle.std.specs.List.{filter, list_any}
-use Rattle.std.proofs.lemmas.Bool.Decides.{nat_tests}
+use Rattle.std.proofs.Common.{◌≡◌, ℕ, ◌≤◌, Bool, false, ◌||◌, nat_le, nat_lt, List, [], ◌∷◌, refl}
+use Rattle.std.proofs.Common.{sym, ◌∙◌, arith, inl, inr}
+use Rattle.std.{specs.List.{filter, list_any}, proofs.lemmas.Bool.Decides.nat_tests}
 use Rattle.semantics.specs.Waiters.{In}
 use Rattle.semantics_schedules.specs.Schedules.{preemptions, schedules_under, schedules_within, exceeds_bound}
-use Rattle.walk_items.specs.declared.mode.Mode.TheVariants.{Bounded}
-use Rattle.walk_summary.specs.Summaries.{sum_of, with_beyond}
-use Rattle.walk_items.specs.Items.{ItemView, item_sum}
+use Rattle.walk_items.specs.{Items.{ItemView, item_sum}, declared.mode.Mode.TheVariants.Bounded}
 use Rattle.walk_items.proofs.Filters.{filter_same}
+use Rattle.walk_summary.specs.Summaries.{sum_of, with_beyond}
 use Rattle.walk_cover.proofs.Listed.{all_off}
 
 none_passes : {A : Type 0} (test : A → Bool) (xs : List A) →

@@ -7,20 +7,15 @@ use Rattle.std.proofs.lemmas.List.{map_push, take_more, flat_map_more, length_pu
 use Rattle.std.proofs.lemmas.List.Elements.{All-nil, All-cons, All-head, All-tail, All-append}
 use Rattle.std.proofs.lemmas.List.Elements.{All-push, All-map}
 use Rattle.guest_code.specs.Program.{Program, IsWellFormed}
-use Rattle.semantics.specs.declared.mask.Mask.{Mask}
-use Rattle.semantics.specs.Machine.{Snapshot, start, is_enabled}
-use Rattle.semantics.specs.Work.{up_from}
-use Rattle.semantics.specs.Ends.{enabled, is_terminal}
-use Rattle.semantics_schedules.specs.declared.limits.TheConstants.{STEPS}
-use Rattle.semantics_schedules.specs.Schedules.{runs}
+use Rattle.semantics.specs.{Ends.{enabled, is_terminal}, Machine.{Snapshot, start, is_enabled}}
+use Rattle.semantics.specs.{Work.up_from, declared.mask.Mask.Mask}
+use Rattle.semantics_schedules.specs.{Schedules.runs, declared.limits.TheConstants.STEPS}
 use Rattle.semantics_schedules.proofs.ScheduleLengths.{schedule_within}
 use Rattle.semantics_schedules.proofs.UnfoldingUnderPrefix.{runs-push, first_enabled}
 use Rattle.replay.proofs.LinesOfSteps.{passed_more, passed_same}
-use Rattle.walk_items.specs.declared.mode.Mode.{Mode}
-use Rattle.walk_items.specs.Items.{ItemView, IsItem, root_of, state_of}
-use Rattle.walk_items.specs.Walks.{IsBelow}
 use Rattle.walk_items.specs.Children.{child_of, children_of, mask_after, next_steps}
-use Rattle.walk_items.proofs.Filters.{filter_twice}
+use Rattle.walk_items.specs.{Items.{ItemView, IsItem, root_of, state_of}, Walks.IsBelow}
+use Rattle.walk_items.{specs.declared.mode.Mode.Mode, proofs.Filters.filter_twice}
 use Rattle.walk_cover.specs.Covers.{IsCover}
 use Rattle.walk_cover.specs.Prefixes.{is_entered, longer, further, prefixes_of, IsComplete, IsListOf}
 use Rattle.walk_cover.proofs.Covers.{prefixes_cover}

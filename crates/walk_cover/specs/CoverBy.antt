@@ -2,10 +2,8 @@
 use Rattle.std.specs.Prelude.{◌≡◌, ◌≢◌, ◌↔◌, ℕ, true, false, List, [], map, filter, All, Contains}
 use Rattle.guest_code.specs.Program.{Program}
 use Rattle.semantics_schedules.specs.Schedules.{begins_with}
-use Rattle.walk_items.specs.declared.mode.Mode.{Mode}
-use Rattle.walk_items.specs.Items.{ItemView, root_of, everything}
-use Rattle.walk_cover.specs.Covers.{IsCover}
-use Rattle.walk_cover.specs.declared.covering.CoverError.{CoverError}
+use Rattle.walk_items.specs.{Items.{ItemView, root_of, everything}, declared.mode.Mode.Mode}
+use Rattle.walk_cover.specs.{Covers.IsCover, declared.covering.CoverError.CoverError}
 use Rattle.walk_cover.specs.declared.covering.CoverError.TheVariants.{Missing, Nested, Unused, OutOfMemory}
 
 -- the items are a cover of the program, and their prefixes are those of the list, in any order

@@ -1,8 +1,7 @@
 -- Covers: items under which each schedule of another item lies once.
 use Rattle.std.specs.Prelude.{◌≡◌, ℕ, List, All, Contains}
+use Rattle.walk_items.specs.{Items.{ItemView, everything, covers}, Walks.{IsBelow, HasItsOf}}
 use Rattle.walk_items.specs.declared.mode.Mode.{Mode}
-use Rattle.walk_items.specs.Items.{ItemView, everything, covers}
-use Rattle.walk_items.specs.Walks.{IsBelow, HasItsOf}
 
 -- the items cover another one: each lies under it, and has those of its schedules that begin with
 -- its own prefix; and each of its schedules, whatever its preemptions, begins with the prefix of

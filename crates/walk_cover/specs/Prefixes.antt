@@ -2,13 +2,11 @@
 use Rattle.std.specs.Prelude.{◌≡◌, ◌≤◌, ◌<◌, ◌⊎◌, ℕ, zero, suc, Bool, true, not, List, All, [], ◌∷◌}
 use Rattle.std.specs.Prelude.{◌++◌, length, filter, flat_map, codes, if◌then◌else◌}
 use Rattle.guest_code.specs.Program.{Program}
-use Rattle.semantics.specs.Mask.{has}
-use Rattle.semantics.specs.Ends.{is_terminal}
+use Rattle.semantics.specs.{Ends.is_terminal, Mask.has}
 use Rattle.replay.specs.Spelling.{printed}
-use Rattle.walk_items.specs.declared.mode.Mode.{Mode}
-use Rattle.walk_items.specs.declared.mode.Mode.TheVariants.{Bounded, Reduced}
-use Rattle.walk_items.specs.Items.{ItemView, root_of, state_of}
 use Rattle.walk_items.specs.Children.{next_steps, children_of}
+use Rattle.walk_items.specs.{Items.{ItemView, root_of, state_of}, declared.mode.Mode.Mode}
+use Rattle.walk_items.specs.declared.mode.Mode.TheVariants.{Bounded, Reduced}
 
 -- whether a step of this thread is gone into: each is, whatever its preemptions; pruned, that of a
 -- thread that doesn't sleep

@@ -3,10 +3,8 @@ use Rattle.std.specs.Prelude.{◌≡◌, ℕ, List, [], filter}
 use Rattle.guest_code.specs.Program.{Program}
 use Rattle.semantics.specs.declared.mask.Mask.{Mask}
 use Rattle.semantics_schedules.specs.Schedules.{begins_with}
-use Rattle.walk_items.specs.declared.mode.Mode.{Mode}
-use Rattle.walk_items.specs.declared.mode.Mode.TheVariants.{Reduced}
-use Rattle.walk_items.specs.Items.{ItemView, root_of, everything}
-use Rattle.walk_items.specs.Walks.{IsBelow, HasItsOf}
+use Rattle.walk_items.specs.{Items.{ItemView, root_of, everything}, Walks.{IsBelow, HasItsOf}}
+use Rattle.walk_items.specs.declared.mode.Mode.{Mode, TheVariants.Reduced}
 
 -- the item of the program's schedules that begin with the prefix
 pub record IsUnder (mode : Mode) (p : Program) (prefix : List ℕ) (i : ItemView) : Type 0 where

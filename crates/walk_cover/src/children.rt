@@ -2,10 +2,8 @@
 
 ghost use Rattle.std.specs.Prelude.{◌≡◌, ◌++◌, ◌<◌, true, length, All, IfOk, OnOk};
 ghost use Rattle.std.specs.List.{flat_map};
-ghost use Rattle.semantics.specs.Ends.{is_terminal};
-ghost use Rattle.semantics.specs.Reachable.{IsOf};
-ghost use Rattle.walk_items.specs.Items.{state_of};
-ghost use Rattle.walk_items.specs.Children.{mask_after};
+ghost use Rattle.semantics.specs.{Ends.is_terminal, Reachable.IsOf};
+ghost use Rattle.walk_items.specs.{Children.mask_after, Items.state_of};
 ghost use Rattle.walk_cover.specs.Prefixes.{is_entered, longer, further, IsComplete};
 
 use semantics::mask::Mask;

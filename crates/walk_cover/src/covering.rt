@@ -1,15 +1,11 @@
 //! Whether a list of prefixes covers a program, and what is wrong with it where it doesn't.
 
 ghost use Rattle.std.specs.Prelude.{◌≡◌, IfOk, IfErr, IfSome, IfNone, MatchResult, map, All, Contains};
-ghost use Rattle.std.specs.List.{list_any, find};
-ghost use Rattle.std.specs.Ordering.{nat_cmp};
-ghost use Rattle.std.specs.Cmp.Lexicographic.{slice_cmp};
-ghost use Rattle.std.specs.BTreeSet.{IsFromIterResult};
-ghost use Rattle.std.specs.Arc.{arc_value};
+ghost use Rattle.std.specs.{Arc.arc_value, BTreeSet.IsFromIterResult, Cmp.Lexicographic.slice_cmp};
+ghost use Rattle.std.specs.{List.{list_any, find}, Ordering.nat_cmp};
 ghost use Rattle.guest_code.specs.Program.{Program, IsWellFormed};
 ghost use Rattle.semantics_schedules.specs.Schedules.{begins_with};
-ghost use Rattle.walk_items.specs.declared.mode.Mode.{Mode};
-ghost use Rattle.walk_items.specs.Items.{root_of};
+ghost use Rattle.walk_items.specs.{Items.root_of, declared.mode.Mode.Mode};
 ghost use Rattle.walk_cover.specs.CoverBy.{IsCoverBy, CoverErrorMeans};
 ghost use Rattle.walk_cover.specs.inner.Reached.{IsReached, IsBare, IsOther};
 

@@ -4,16 +4,13 @@ ghost use Rattle.std.specs.Prelude.{◌≡◌, ◌<◌, ◌≤◌, ℕ, true, fa
 ghost use Rattle.std.specs.List.{flat_map};
 ghost use Rattle.guest_code.specs.Program.{Program, IsWellFormed};
 ghost use Rattle.semantics.specs.Machine.{start};
+ghost use Rattle.semantics_schedules.specs.{Order.is_complete, Rising.IsRising};
 ghost use Rattle.semantics_schedules.specs.Schedules.{preemptions, schedules_cut_at};
-ghost use Rattle.semantics_schedules.specs.Rising.{IsRising};
-ghost use Rattle.semantics_schedules.specs.Order.{is_complete};
 ghost use Rattle.semantics_schedules.specs.Sleep.{is_kept, none_asleep};
-ghost use Rattle.walk_items.specs.declared.mode.Mode.{Mode};
-ghost use Rattle.walk_items.specs.declared.mode.Mode.TheVariants.{Bounded, Reduced};
-ghost use Rattle.walk_summary.specs.Summaries.{nothing, with_beyond};
 ghost use Rattle.walk_items.specs.Items.{ItemView, IsItem, root_of, item_sum, item_sums, whole, covers, everything};
-ghost use Rattle.walk_cover.specs.Covers.{IsCover};
-ghost use Rattle.walk_cover.specs.Prefixes.{prefixes_of, IsComplete};
+ghost use Rattle.walk_items.specs.declared.mode.Mode.{Mode, TheVariants.{Bounded, Reduced}};
+ghost use Rattle.walk_summary.specs.Summaries.{nothing, with_beyond};
+ghost use Rattle.walk_cover.specs.{Covers.IsCover, Prefixes.{prefixes_of, IsComplete}};
 
 // Covers.
 

@@ -2,11 +2,9 @@
 //! asked for.
 
 ghost use Rattle.std.specs.Prelude.{◌≡◌, IfOk};
-ghost use Rattle.std.specs.Arc.{arc_value};
-ghost use Rattle.std.specs.List.{flat_map};
+ghost use Rattle.std.specs.{Arc.arc_value, List.flat_map};
 ghost use Rattle.walk_items.specs.Items.{root_of};
-ghost use Rattle.walk_cover.specs.Covers.{IsCover};
-ghost use Rattle.walk_cover.specs.Prefixes.{IsListOf, prefix_line};
+ghost use Rattle.walk_cover.specs.{Covers.IsCover, Prefixes.{IsListOf, prefix_line}};
 
 use crate::children::next_layer;
 use guest_code::laws::programs_are_well_formed;

@@ -2,8 +2,7 @@
 
 ghost use Rattle.std.specs.Prelude.{◌≡◌, true, IfOk, IfErr, MatchOption};
 ghost use Rattle.std.specs.Arc.{arc_value};
-ghost use Rattle.semantics.specs.Mask.{no_threads};
-ghost use Rattle.semantics.specs.Machine.{start};
+ghost use Rattle.semantics.specs.{Machine.start, Mask.no_threads};
 ghost use Rattle.semantics_schedules.specs.Schedules.{runs};
 ghost use Rattle.replay.specs.Run.{ReplayErrorMeans};
 ghost use Rattle.walk_items.specs.declared.mode.Mode.TheVariants.{Reduced};

@@ -4,38 +4,28 @@ use Rattle.std.proofs.Common.{◌≡◌, ◌⊎◌, inl, inr, ℕ, zero, suc, �
 use Rattle.std.proofs.Common.{cond, not, ◌&&◌, ◌||◌, nat_eq, nat_le, nat_lt, List, [], ◌∷◌, ◌++◌}
 use Rattle.std.proofs.Common.{length, map, refl, ap, ◌∙◌, sym, subst, arith, IsPermutation}
 use Rattle.std.specs.List.{All, filter, flat_map, list_any}
-use Rattle.std.proofs.lemmas.Bool.{cases_lt, cases_order}
-use Rattle.std.proofs.lemmas.Bool.Decides.{nat_tests}
-use Rattle.std.proofs.lemmas.List.{append-nil, map-append}
+use Rattle.std.proofs.lemmas.Bool.{cases_lt, cases_order, Decides.nat_tests}
+use Rattle.std.proofs.lemmas.List.{append-nil, map-append, Elements.{All-nil, All-cons, All-append}}
 use Rattle.std.proofs.lemmas.List.Folds.{flat_map-map}
 use Rattle.std.proofs.lemmas.List.Sorted.{IsPermutation-refl, IsPermutation-filter_both}
-use Rattle.std.proofs.lemmas.List.Elements.{All-nil, All-cons, All-append}
-use Rattle.semantics.specs.Mask.{has, one_if}
-use Rattle.semantics.specs.Machine.{Snapshot, start, is_enabled}
-use Rattle.semantics.specs.Reachable.{IsOf}
-use Rattle.semantics.specs.Work.{up_from, total_by}
-use Rattle.semantics_schedules.specs.Schedules.{preempts, preemptions, last_of, begins_with, schedules_under}
-use Rattle.semantics_schedules.specs.Schedules.{schedules_within, exceeds_bound}
 use Rattle.semantics.specs.Ends.{enabled, is_terminal, is_empty}
-use Rattle.semantics_schedules.specs.Sleep.{reduced_schedules}
-use Rattle.semantics.specs.Waiters.{In}
+use Rattle.semantics.specs.{Machine.{Snapshot, start, is_enabled}, Mask.{has, one_if}}
+use Rattle.semantics.specs.{Reachable.IsOf, Waiters.In, Work.{up_from, total_by}}
 use Rattle.semantics.proofs.ListMembers.{contains_in, in_contains, from_filter, from_map}
 use Rattle.semantics.proofs.ListMembers.{from_flat_map}
+use Rattle.semantics_schedules.specs.Schedules.{preempts, preemptions, last_of, begins_with, schedules_under, schedules_within, exceeds_bound}
+use Rattle.semantics_schedules.specs.Sleep.{reduced_schedules}
 use Rattle.semantics_schedules.proofs.ReducedSchedules.{in_any, from_enabled}
-use Rattle.semantics_schedules.proofs.UnfoldingUnderPrefix.{runs-push, preemptions-push, schedules_under-more}
-use Rattle.semantics_schedules.proofs.UnfoldingUnderPrefix.{schedules_within-more, schedules_within-past}
-use Rattle.semantics_schedules.proofs.UnfoldingUnderPrefix.{exceeds_bound-more, exceeds_bound-past}
 use Rattle.semantics_schedules.proofs.SchedulesUnderPrefix.{begins_longer, in_under, in_within}
-use Rattle.walk_items.specs.declared.mode.Mode.{Mode}
-use Rattle.walk_items.specs.declared.mode.Mode.TheVariants.{Bounded, Reduced}
-use Rattle.walk_items.specs.Items.{ItemView, IsItem, schedules_of, everything, goes_beyond, covers}
-use Rattle.walk_items.specs.Items.{is_under}
-use Rattle.walk_items.specs.Walks.{IsBelow, IsDeferred}
+use Rattle.semantics_schedules.proofs.UnfoldingUnderPrefix.{runs-push, preemptions-push, schedules_under-more, schedules_within-more, schedules_within-past, exceeds_bound-more, exceeds_bound-past}
 use Rattle.walk_items.specs.Children.{state_of, next_steps, is_kept_step, is_past_step, kept_steps}
 use Rattle.walk_items.specs.Children.{past_steps, passes_bound, child_of, children_of, children}
 use Rattle.walk_items.specs.Children.{past_children}
-use Rattle.walk_items.proofs.Covers.{at_most_one, covers-append}
-use Rattle.walk_items.proofs.Filters.{filter_none}
+use Rattle.walk_items.specs.Items.{ItemView, IsItem, schedules_of, everything, goes_beyond, covers}
+use Rattle.walk_items.specs.Items.{is_under}
+use Rattle.walk_items.specs.{Walks.{IsBelow, IsDeferred}, declared.mode.Mode.Mode}
+use Rattle.walk_items.specs.declared.mode.Mode.TheVariants.{Bounded, Reduced}
+use Rattle.walk_items.proofs.{Covers.{at_most_one, covers-append}, Filters.filter_none}
 use Rattle.walk_items.proofs.Permutations.{flat_map-permutation}
 use Rattle.walk_items.proofs.Reduced.{children_keep, child_keeps}
 

@@ -1,30 +1,22 @@
 -- A single item as a walk: not begun, complete, one step further, and past its bound.
 use Rattle.std.proofs.Common.{◌≡◌, ℕ, ◌≤◌, true, false, cond, nat_le, nat_lt, [], ◌∷◌, ◌++◌, map}
 use Rattle.std.proofs.Common.{refl, ap, ◌∙◌, sym, subst, arith, IsPermutation}
-use Rattle.std.specs.List.{Contains}
-use Rattle.std.proofs.lemmas.Bool.Decides.{nat_tests}
-use Rattle.std.proofs.lemmas.List.{append-nil}
-use Rattle.std.proofs.lemmas.List.Elements.{All-nil, All-cons}
+use Rattle.std.{specs.List.Contains, proofs.lemmas.Bool.Decides.nat_tests}
+use Rattle.std.proofs.lemmas.List.{append-nil, Elements.{All-nil, All-cons}}
 use Rattle.std.proofs.lemmas.List.Sorted.{IsPermutation-refl}
-use Rattle.semantics.specs.Mask.{has}
-use Rattle.semantics.specs.Reachable.{IsOf}
+use Rattle.semantics.specs.{Ends.is_terminal, Mask.has, Reachable.IsOf}
 use Rattle.semantics_schedules.specs.Schedules.{preemptions}
-use Rattle.semantics.specs.Ends.{is_terminal}
 use Rattle.semantics_schedules.proofs.SleepSets.{reduced_schedules-terminal}
-use Rattle.semantics_schedules.proofs.UnfoldingUnderPrefix.{schedules_under-terminal}
-use Rattle.semantics_schedules.proofs.UnfoldingUnderPrefix.{schedules_within-terminal, exceeds_bound-terminal}
-use Rattle.walk_items.specs.declared.mode.Mode.{Mode}
-use Rattle.walk_items.specs.declared.mode.Mode.TheVariants.{Bounded, Reduced}
-use Rattle.walk_summary.specs.Summaries.{nothing, sum_of, with_beyond}
-use Rattle.walk_items.specs.Items.{ItemView, IsItem, schedules_of, everything, goes_beyond}
-use Rattle.walk_items.specs.Walks.{IsWalked, IsBelow, IsDeferred, IsCut, IsPastBound, walk_past_bound}
-use Rattle.walk_items.specs.Walks.{IsWithin}
+use Rattle.semantics_schedules.proofs.UnfoldingUnderPrefix.{schedules_under-terminal, schedules_within-terminal, exceeds_bound-terminal}
 use Rattle.walk_items.specs.Children.{state_of, passes_bound, children_of, children, past_children}
-use Rattle.walk_items.proofs.WalkedItems.{HasItsOf, past_none, past_beyond}
+use Rattle.walk_items.specs.Items.{ItemView, IsItem, schedules_of, everything, goes_beyond}
+use Rattle.walk_items.specs.Walks.{IsWalked, IsBelow, IsDeferred, IsCut, IsPastBound, walk_past_bound, IsWithin}
+use Rattle.walk_items.specs.declared.mode.Mode.{Mode, TheVariants.{Bounded, Reduced}}
 use Rattle.walk_items.proofs.Children.{children_schedules, children_all, children_beyond}
 use Rattle.walk_items.proofs.Children.{children_below, children_apart, children_within}
 use Rattle.walk_items.proofs.Children.{children_deferred, children_pruned, reduced_past}
-use Rattle.walk_items.proofs.Splits.{split_open}
+use Rattle.walk_items.proofs.{Splits.split_open, WalkedItems.{HasItsOf, past_none, past_beyond}}
+use Rattle.walk_summary.specs.Summaries.{nothing, sum_of, with_beyond}
 
 -- a walk that has not begun: the item is its own rest
 

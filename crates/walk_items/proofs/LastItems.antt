@@ -1,14 +1,11 @@
 -- The items of prefixes, and the last one of them.
 use Rattle.std.proofs.Common.{◌≡◌, ℕ, zero, suc, Some, Result, IfOk, slice_get, ◌-◌, ◌<◌, List, [], ◌∷◌, ◌++◌, length, get_or, take, refl, ap, sym, ◌∙◌, subst, arith}
-use Rattle.std.specs.List.{All}
+use Rattle.std.{specs.List.All, proofs.Math.Seq.take-suc, proofs.lemmas.List.take_all}
 use Rattle.std.proofs.lemmas.List.Elements.{All-head}
-use Rattle.std.proofs.lemmas.List.{take_all}
-use Rattle.std.proofs.Math.Seq.{take-suc}
 use Rattle.guest_code.specs.Program.{Program}
-use Rattle.walk_items.specs.Items.{ItemView, IsItem, item_at}
-use Rattle.walk_prefixes.specs.PrefixLists.{last_of}
-use Rattle.walk_items.specs.Walks.{items_at}
+use Rattle.walk_items.specs.{Items.{ItemView, IsItem, item_at}, Walks.items_at}
 use Rattle.walk_items.proofs.ListParts.{all_right}
+use Rattle.walk_prefixes.specs.PrefixLists.{last_of}
 
 pub got : (r : List (List ℕ)) (k : ℕ) (w : List ℕ) → slice_get r k ≡ Some w → get_or r k [] ≡ w
 got [] k w e = cc

@@ -1,7 +1,6 @@
 -- What holds of each of the two parts of a list.
 use Rattle.std.proofs.Common.{List, [], ◌∷◌, ◌++◌}
-use Rattle.std.specs.List.{All}
-use Rattle.std.proofs.lemmas.List.Elements.{All-nil, All-cons, All-head, All-tail}
+use Rattle.std.{specs.List.All, proofs.lemmas.List.Elements.{All-nil, All-cons, All-head, All-tail}}
 
 pub all_left : {A : Type 0} (P : A → Type 0) (xs ys : List A) → All P (xs ++ ys) → All P xs
 all_left P [] ys h = All-nil P

@@ -4,26 +4,19 @@ use Rattle.std.proofs.Common.{[], ◌∷◌, ◌++◌, length, map, drop, refl, 
 use Rattle.std.proofs.Common.{append_assoc, inl, inr}
 use Rattle.std.specs.List.{filter, flat_map}
 use Rattle.guest_code.specs.Program.{Program}
-use Rattle.semantics.specs.Mask.{has}
-use Rattle.semantics.specs.Machine.{Snapshot, start, step, is_enabled}
-use Rattle.semantics.specs.Reachable.{IsOf}
-use Rattle.semantics_schedules.specs.Schedules.{complete_schedules, schedules_under, state_after, runs}
-use Rattle.semantics_schedules.specs.Schedules.{before, begins_with}
 use Rattle.semantics.specs.Ends.{enabled, is_terminal}
+use Rattle.semantics.specs.{Machine.{Snapshot, start, step, is_enabled}, Mask.has, Reachable.IsOf}
+use Rattle.semantics.{specs.Waiters.In, proofs.ListMembers.{from_map, from_filter}}
+use Rattle.semantics.proofs.{Masks.has-mask_of, StepsKeepStates.step_is_of, WorkFalls.enabled_below}
+use Rattle.semantics_schedules.specs.Schedules.{complete_schedules, schedules_under, state_after, runs, before, begins_with}
 use Rattle.semantics_schedules.specs.Sleep.{reduced_schedules, is_kept, next_sleep_set, independent}
-use Rattle.semantics.specs.Waiters.{In}
-use Rattle.semantics.proofs.Masks.{has-mask_of}
-use Rattle.semantics.proofs.ListMembers.{from_map, from_filter}
-use Rattle.semantics.proofs.WorkFalls.{enabled_below}
-use Rattle.semantics.proofs.StepsKeepStates.{step_is_of}
-use Rattle.semantics_schedules.proofs.UnfoldingUnderPrefix.{schedules_under_is, runs-push, state_after-push}
-use Rattle.semantics_schedules.proofs.SleepSets.{reduced_schedules-more}
 use Rattle.semantics_schedules.proofs.ReducedSchedules.{from_enabled}
 use Rattle.semantics_schedules.proofs.SchedulesUnderPrefix.{schedules_under-longer, begins_longer}
-use Rattle.walk_items.specs.declared.mode.Mode.TheVariants.{Reduced}
-use Rattle.walk_items.specs.Items.{ItemView, IsItem, kept_schedules}
+use Rattle.semantics_schedules.proofs.SleepSets.{reduced_schedules-more}
+use Rattle.semantics_schedules.proofs.UnfoldingUnderPrefix.{schedules_under_is, runs-push, state_after-push}
 use Rattle.walk_items.specs.Children.{state_of, child_of}
-use Rattle.walk_items.proofs.Filters.{filter_same}
+use Rattle.walk_items.specs.Items.{ItemView, IsItem, kept_schedules}
+use Rattle.walk_items.{specs.declared.mode.Mode.TheVariants.Reduced, proofs.Filters.filter_same}
 
 -- the schedules that sleep sets leave after a prefix where these threads sleep
 abbrev pub kept_after : Program → List ℕ → (ℕ → Bool) → List (List ℕ)

@@ -4,43 +4,36 @@ use Rattle.std.proofs.Common.{◌≡◌, ◌⊎◌, inl, inr, ℕ, ◌+◌, ◌�
 use Rattle.std.proofs.Common.{nat_lt, List, [], ◌∷◌, ◌++◌, get_or, refl, ap, ◌∙◌, sym, subst, arith}
 use Rattle.std.proofs.Common.{IsPermutation}
 use Rattle.std.specs.List.{filter, flat_map, list_any, All, Contains}
-use Rattle.std.proofs.lemmas.Bool.Decides.{nat_tests}
-use Rattle.std.proofs.lemmas.Grind.{flat_map-append}
-use Rattle.std.proofs.lemmas.List.{append-nil}
+use Rattle.std.proofs.Math.Bool.{or-false, or_assoc}
+use Rattle.std.proofs.lemmas.{Bool.Decides.nat_tests, Grind.flat_map-append, List.append-nil}
 use Rattle.std.proofs.lemmas.List.Elements.{All-nil, All-cons, All-append, All-head, All-tail}
 use Rattle.std.proofs.lemmas.List.Elements.{All-contains, All-weaker, Contains-append_cases}
 use Rattle.std.proofs.lemmas.List.Elements.{filter-append}
 use Rattle.std.proofs.lemmas.List.Folds.{list_any-append, list_any_none}
-use Rattle.std.proofs.lemmas.List.Sorted.{All-permutation, Contains-permutation}
-use Rattle.std.proofs.lemmas.List.Sorted.{IsPermutation-refl, IsPermutation-trans}
-use Rattle.std.proofs.lemmas.List.Sorted.{IsPermutation-append_comm}
+use Rattle.std.proofs.lemmas.List.Sorted.{All-permutation, Contains-permutation, IsPermutation-refl}
+use Rattle.std.proofs.lemmas.List.Sorted.{IsPermutation-trans, IsPermutation-append_comm}
 use Rattle.std.proofs.lemmas.List.Sorted.{IsPermutation-append_left, IsPermutation-append_right}
 use Rattle.std.proofs.lemmas.List.Sorted.{IsPermutation-middle, list_any-IsPermutation}
-use Rattle.std.proofs.Math.Bool.{or-false, or_assoc}
 use Rattle.guest_code.specs.Program.{Program}
 use Rattle.semantics_schedules.specs.Schedules.{begins_with, preemptions, schedules_under}
 use Rattle.semantics_schedules.specs.Schedules.{schedules_within, exceeds_bound}
 use Rattle.semantics_schedules.proofs.SchedulesUnderPrefix.{begins_further, begins_itself, in_within}
-use Rattle.semantics.proofs.ListMembers.{contains_in, in_contains, from_filter}
-use Rattle.semantics.specs.Waiters.{In}
-use Rattle.walk_items.specs.declared.mode.Mode.{Mode}
-use Rattle.walk_items.specs.declared.mode.Mode.TheVariants.{Bounded, Reduced}
-use Rattle.walk_summary.specs.Summaries.{SummaryView, IsSummary, nothing, sum_of, join, with_beyond}
-use Rattle.walk_summary.proofs.SumsJoin.{sum_of-append, sum_of_none, sum_of-beyond, sum_kept}
-use Rattle.walk_summary.proofs.SumsJoin.{join_nothing, join_beyond}
+use Rattle.semantics.{specs.Waiters.In, proofs.ListMembers.{contains_in, in_contains, from_filter}}
+use Rattle.walk_items.specs.FullSums.{full_sum, full_sums}
 use Rattle.walk_items.specs.Items.{ItemView, IsItem, root_of, schedules_of, everything, goes_beyond}
 use Rattle.walk_items.specs.Items.{item_sum, item_sums, is_under}
-use Rattle.walk_items.specs.Walks.{HasItsOf, HasAllPast, IsBelow, IsDeferred, IsCut, IsSplit, IsWithin}
-use Rattle.walk_items.specs.Walks.{IsWalked, clear_of}
-use Rattle.walk_items.specs.FullSums.{full_sum, full_sums}
-use Rattle.walk_items.proofs.Children.{begins_own, under_all}
-use Rattle.walk_items.proofs.Covers.{covers-append}
+use Rattle.walk_items.specs.Walks.{HasItsOf, HasAllPast, IsBelow, IsDeferred, IsCut, IsSplit, IsWithin, IsWalked, clear_of}
+use Rattle.walk_items.specs.declared.mode.Mode.{Mode, TheVariants.{Bounded, Reduced}}
+use Rattle.walk_items.proofs.{Children.{begins_own, under_all}, Covers.covers-append}
 use Rattle.walk_items.proofs.Filters.{filter_longer, filter_whole}
 use Rattle.walk_items.proofs.ListParts.{all_left, all_right}
 use Rattle.walk_items.proofs.Permutations.{flat_map-permutation, filter-permutation}
 use Rattle.walk_items.proofs.Permutations.{sum_of-permutation, covers-permutation, parts_apart}
 use Rattle.walk_items.proofs.Permutations.{placed-permutation, turned-permutation}
 use Rattle.walk_items.proofs.WalkedItems.{join-beyond, joined_sum, past_none, rest_has, clear_part}
+use Rattle.walk_summary.specs.Summaries.{SummaryView, IsSummary, nothing, sum_of, join, with_beyond}
+use Rattle.walk_summary.proofs.SumsJoin.{sum_of-append, sum_of_none, sum_of-beyond, sum_kept}
+use Rattle.walk_summary.proofs.SumsJoin.{join_nothing, join_beyond}
 
 -- at the start all is open
 

@@ -2,26 +2,19 @@
 use Rattle.std.proofs.Common.{◌≡◌, ℕ, zero, suc, ◌+◌, ◌*◌, ◌≤◌, Bool, true, false, cond, List, []}
 use Rattle.std.proofs.Common.{◌∷◌, ◌++◌, length, refl, ap, arith, inl, inr}
 use Rattle.std.specs.List.{filter}
-use Rattle.guest_code.specs.declared.limits.TheConstants.{THREADS}
-use Rattle.guest_code.specs.Program.{Program, IsWellFormed}
-use Rattle.semantics_schedules.specs.declared.limits.TheConstants.{STEPS}
-use Rattle.semantics.specs.Machine.{Snapshot, start, step, is_enabled}
-use Rattle.semantics.specs.Reachable.{IsOf}
-use Rattle.semantics.specs.Work.{up_from, work}
-use Rattle.semantics.specs.Ends.{enabled, is_terminal}
+use Rattle.guest_code.specs.{Program.{Program, IsWellFormed}, declared.limits.TheConstants.THREADS}
 use Rattle.semantics_schedules.specs.Schedules.{state_after, runs, preemptions, last_of}
-use Rattle.semantics.specs.Waiters.{In}
-use Rattle.semantics_schedules.proofs.Executions.{reaches_few}
-use Rattle.semantics.proofs.ListMembers.{from_filter}
-use Rattle.semantics_schedules.proofs.ReducedSchedules.{from_enabled}
+use Rattle.semantics_schedules.specs.declared.limits.TheConstants.{STEPS}
+use Rattle.semantics_schedules.proofs.{Executions.reaches_few, ReducedSchedules.from_enabled}
 use Rattle.semantics_schedules.proofs.ScheduleLengths.{schedule_within}
-use Rattle.semantics.proofs.TerminalStates.{is_terminal-none}
 use Rattle.semantics_schedules.proofs.UnfoldingUnderPrefix.{state_after-push}
-use Rattle.semantics.proofs.WorkFalls.{work-step}
-use Rattle.walk_items.specs.declared.mode.Mode.{Mode}
-use Rattle.walk_items.specs.Items.{ItemView}
+use Rattle.semantics.specs.Ends.{enabled, is_terminal}
+use Rattle.semantics.specs.{Machine.{Snapshot, start, step, is_enabled}, Reachable.IsOf, Waiters.In}
+use Rattle.semantics.{specs.Work.{up_from, work}, proofs.ListMembers.from_filter}
+use Rattle.semantics.proofs.{TerminalStates.is_terminal-none, WorkFalls.work-step}
 use Rattle.walk_items.specs.Children.{state_of, next_steps, is_kept_step, kept_steps, child_of}
 use Rattle.walk_items.specs.Children.{children_of, children, turns, cost_of, costs}
+use Rattle.walk_items.specs.{Items.ItemView, declared.mode.Mode.Mode}
 
 pub costs-append : (xs ys : List ItemView) → costs (xs ++ ys) ≡ costs xs + costs ys
 costs-append [] ys = omega arith

@@ -4,47 +4,36 @@ use Rattle.std.proofs.Common.{false, not, cond, ◌||◌, nat_eq, nat_le, nat_lt
 use Rattle.std.proofs.Common.{length, map, get_or, refl, ap, ◌∙◌, sym, arith, subst, length-append}
 use Rattle.std.proofs.Common.{IsPermutation}
 use Rattle.std.specs.List.{filter, flat_map, list_any, All, AllPairs, Contains}
-use Rattle.std.proofs.lemmas.Bool.{not-true, not_from_false, or_parts}
-use Rattle.std.proofs.lemmas.Bool.Decides.{nat_tests}
+use Rattle.std.proofs.lemmas.Bool.{not-true, not_from_false, or_parts, Decides.nat_tests}
 use Rattle.std.proofs.lemmas.List.{append-nil, get_or_append_left, get_or-append-add, get_or-map}
 use Rattle.std.proofs.lemmas.List.{length-map}
 use Rattle.std.proofs.lemmas.List.Elements.{All-nil, All-cons, All-head, All-tail, All-weaker}
 use Rattle.std.proofs.lemmas.List.Elements.{All-contains, All-contains_itself, All-filter}
 use Rattle.std.proofs.lemmas.List.Elements.{filter-append, filter_passes, Contains-append_cases}
-use Rattle.std.proofs.lemmas.List.Folds.{list_any_none}
-use Rattle.std.proofs.lemmas.List.Kept.{AllPairs-filter}
+use Rattle.std.proofs.lemmas.List.{Folds.list_any_none, Kept.AllPairs-filter}
 use Rattle.std.proofs.lemmas.List.Sorted.{IsPermutation-refl, IsPermutation-sym}
 use Rattle.std.proofs.lemmas.List.Sorted.{Contains-permutation, length_permutation}
 use Rattle.guest_code.specs.Program.{Program}
-use Rattle.semantics.specs.Machine.{Snapshot, start}
-use Rattle.semantics.specs.Mask.{has, no_threads}
-use Rattle.semantics_schedules.specs.Schedules.{state_after, begins_with, preemptions, complete_schedules}
-use Rattle.semantics_schedules.specs.Schedules.{schedules_under, schedules_within, exceeds_bound}
-use Rattle.semantics_schedules.specs.Order.{precedes}
-use Rattle.semantics_schedules.specs.Sleep.{reduced_schedules, is_kept, none_asleep}
-use Rattle.semantics.specs.Waiters.{In}
-use Rattle.semantics_schedules.proofs.KeptSchedules.{reduced_members, kept_complete}
-use Rattle.semantics.proofs.Masks.{empty_has}
-use Rattle.semantics_schedules.proofs.ReducedSchedules.{any_in}
+use Rattle.semantics.specs.{Machine.{Snapshot, start}, Mask.{has, no_threads}, Waiters.In}
 use Rattle.semantics.proofs.ListMembers.{in_contains, contains_in, in_filter, in_map, from_map}
-use Rattle.semantics_schedules.proofs.StatedLaws.{complete}
-use Rattle.semantics_schedules.specs.Rising.{IsRising}
+use Rattle.semantics.proofs.Masks.{empty_has}
+use Rattle.semantics_schedules.specs.{Order.precedes, Rising.IsRising}
+use Rattle.semantics_schedules.specs.Schedules.{state_after, begins_with, preemptions, complete_schedules, schedules_under, schedules_within, exceeds_bound}
+use Rattle.semantics_schedules.specs.Sleep.{reduced_schedules, is_kept, none_asleep}
 use Rattle.semantics_schedules.proofs.CompleteSchedulesRise.{all_rise}
-use Rattle.semantics_schedules.proofs.SchedulesUnderPrefix.{schedules_within-longer, in_under, in_within}
-use Rattle.semantics_schedules.proofs.SchedulesUnderPrefix.{beyond_is}
+use Rattle.semantics_schedules.proofs.KeptSchedules.{reduced_members, kept_complete}
+use Rattle.semantics_schedules.proofs.ReducedSchedules.{any_in}
+use Rattle.semantics_schedules.proofs.SchedulesUnderPrefix.{schedules_within-longer, in_under, in_within, beyond_is}
+use Rattle.semantics_schedules.proofs.StatedLaws.{complete}
 use Rattle.semantics_schedules.proofs.UnfoldingUnderPrefix.{schedules_within-past, exceeds_bound-past}
-use Rattle.walk_items.specs.declared.mode.Mode.{Mode}
-use Rattle.walk_items.specs.declared.mode.Mode.TheVariants.{Bounded, Reduced}
+use Rattle.walk_items.specs.Items.{ItemView, AreOf, IsItem, IsScheduleOf, state_of, root_of, schedules_of, goes_beyond, item_sum, item_sums, schedule_count, covers, is_under}
+use Rattle.walk_items.specs.Walks.{WalkView, IsWalked, IsBelow, IsSplit, clear_of, tried_by}
+use Rattle.walk_items.specs.declared.mode.Mode.{Mode, TheVariants.{Bounded, Reduced}}
 use Rattle.walk_summary.specs.Summaries.{SummaryView, cut, greatest_count, nothing, sum_of, join}
 use Rattle.walk_summary.specs.Summaries.{with_beyond}
-use Rattle.walk_items.specs.Items.{ItemView, AreOf, IsItem, IsScheduleOf, state_of, root_of, schedules_of}
-use Rattle.walk_items.specs.Items.{goes_beyond, item_sum, item_sums, schedule_count, covers, is_under}
-use Rattle.walk_items.specs.Walks.{WalkView, IsWalked, IsBelow, IsSplit, clear_of, tried_by}
 pub use Rattle.walk_items.specs.Walks.{HasItsOf}
-use Rattle.walk_items.proofs.Children.{begins_own, under_own}
-use Rattle.walk_items.proofs.Covers.{at_most_one}
-use Rattle.walk_items.proofs.Filters.{filter_all, filter_whole}
-use Rattle.walk_items.proofs.ListParts.{all_left}
+use Rattle.walk_items.proofs.{Children.{begins_own, under_own}, Covers.at_most_one}
+use Rattle.walk_items.proofs.{Filters.{filter_all, filter_whole}, ListParts.all_left}
 use Rattle.walk_items.proofs.Permutations.{filter-permutation, sum_of-permutation}
 use Rattle.walk_summary.proofs.SumsJoin.{sum_of-append}
 

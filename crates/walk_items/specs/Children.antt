@@ -3,15 +3,11 @@
 use Rattle.std.specs.Prelude.{ℕ, zero, suc, ◌+◌, ◌*◌, Bool, false, not, nat_le, nat_lt, List, []}
 use Rattle.std.specs.Prelude.{◌∷◌, ◌++◌, map, filter}
 use Rattle.guest_code.specs.declared.limits.TheConstants.{THREADS}
+use Rattle.semantics.specs.{Ends.{enabled, is_empty}, Mask.{no_threads, has, mask_of}, Work.work}
 use Rattle.semantics.specs.declared.mask.Mask.{Mask}
-use Rattle.semantics.specs.Mask.{no_threads, has, mask_of}
-use Rattle.semantics.specs.Ends.{enabled, is_empty}
-use Rattle.semantics_schedules.specs.Schedules.{preemptions}
-use Rattle.semantics.specs.Work.{work}
-use Rattle.semantics_schedules.specs.Sleep.{next_sleep_set}
-use Rattle.walk_items.specs.declared.mode.Mode.{Mode}
+use Rattle.semantics_schedules.specs.{Schedules.preemptions, Sleep.next_sleep_set}
+use Rattle.walk_items.specs.{Items.ItemView, declared.mode.Mode.Mode}
 use Rattle.walk_items.specs.declared.mode.Mode.TheVariants.{Bounded, Reduced}
-use Rattle.walk_items.specs.Items.{ItemView}
 pub use Rattle.walk_items.specs.Items.{state_of}
 pub use Rattle.walk_items.specs.Walks.{IsWithin}
 

@@ -1,19 +1,15 @@
 -- Items: the complete schedules that begin with a prefix, and their sums.
 use Rattle.std.specs.Prelude.{◌≡◌, ℕ, ◌+◌, Bool, true, false, List, All, [], ◌∷◌, ◌++◌, length, map}
-use Rattle.std.specs.declared.alloc.Global.{Global}
+use Rattle.std.specs.{Arc.arc_value, List.list_any, declared.alloc.Global.Global}
 use Rattle.std.specs.declared.sync.Arc.{Arc}
-use Rattle.std.specs.Arc.{arc_value}
-use Rattle.std.specs.List.{list_any}
 use Rattle.guest_code.specs.Program.{Program}
+use Rattle.semantics.specs.{Machine.{Snapshot, start}, Mask.{no_threads, has, one_if}}
 use Rattle.semantics.specs.declared.mask.Mask.{Mask}
-use Rattle.semantics.specs.Mask.{no_threads, has, one_if}
-use Rattle.semantics.specs.Machine.{Snapshot, start}
+use Rattle.semantics_schedules.specs.Order.{is_complete}
 use Rattle.semantics_schedules.specs.Schedules.{state_after, runs, begins_with, schedules_under}
 use Rattle.semantics_schedules.specs.Schedules.{schedules_within, exceeds_bound}
 use Rattle.semantics_schedules.specs.Sleep.{reduced_schedules}
-use Rattle.semantics_schedules.specs.Order.{is_complete}
-use Rattle.walk_items.specs.declared.mode.Mode.{Mode}
-use Rattle.walk_items.specs.declared.mode.Mode.TheVariants.{Bounded, Reduced}
+use Rattle.walk_items.specs.declared.mode.Mode.{Mode, TheVariants.{Bounded, Reduced}}
 use Rattle.walk_summary.specs.Summaries.{SummaryView, nothing, sum_of, join, with_beyond}
 
 -- what contracts see of an item: a prefix of a program's schedules, and the threads that sleep

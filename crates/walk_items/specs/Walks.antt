@@ -2,18 +2,15 @@
 -- off.
 use Rattle.std.specs.Prelude.{◌≡◌, ◌≤◌, ◌<◌, ◌+◌, ℕ, Bool, true, false, not, ◌||◌, List, [], ◌∷◌}
 use Rattle.std.specs.Prelude.{◌++◌, filter, map, flat_map, All, Contains}
-use Rattle.std.specs.declared.alloc.Global.{Global}
+use Rattle.std.specs.{List.list_any, List.Sorted.IsPermutation, declared.alloc.Global.Global}
 use Rattle.std.specs.declared.vec.Vec.{Vec}
-use Rattle.std.specs.List.{list_any}
-use Rattle.std.specs.List.Sorted.{IsPermutation}
 use Rattle.guest_code.specs.Program.{Program}
 use Rattle.semantics_schedules.specs.Schedules.{begins_with, preemptions, schedules_under}
 use Rattle.semantics.specs.Mask.{one_if}
-use Rattle.walk_items.specs.declared.mode.Mode.{Mode}
-use Rattle.walk_items.specs.declared.mode.Mode.TheVariants.{Bounded, Reduced}
-use Rattle.walk_summary.specs.Summaries.{SummaryView, nothing, sum_of, with_beyond}
 use Rattle.walk_items.specs.Items.{ItemView, IsItem, item_at, schedules_of, everything, goes_beyond}
 use Rattle.walk_items.specs.Items.{covers, is_under}
+use Rattle.walk_items.specs.declared.mode.Mode.{Mode, TheVariants.{Bounded, Reduced}}
+use Rattle.walk_summary.specs.Summaries.{SummaryView, nothing, sum_of, with_beyond}
 
 -- what contracts see of a walk
 pub record WalkView : Type 0 where

@@ -3,18 +3,15 @@
 ghost use Rattle.std.specs.Prelude.{◌≡◌, ◌↔◌, ◌+◌, ◌≤◌, ◌<◌, ℕ, nat_le, nat_lt, true, false, List, [], ◌++◌, length, filter, slice_index_or, Contains, All};
 ghost use Rattle.std.specs.List.{list_any};
 ghost use Rattle.guest_code.specs.Program.{Program};
-ghost use Rattle.semantics.specs.Machine.{start};
-ghost use Rattle.semantics.specs.Mask.{has};
+ghost use Rattle.semantics.specs.{Machine.start, Mask.has};
+ghost use Rattle.semantics_schedules.specs.{Order.precedes, Rising.IsRising};
 ghost use Rattle.semantics_schedules.specs.Schedules.{complete_schedules, preemptions, begins_with};
-ghost use Rattle.semantics_schedules.specs.Order.{precedes};
-ghost use Rattle.semantics_schedules.specs.Rising.{IsRising};
 ghost use Rattle.semantics_schedules.specs.Sleep.{is_kept, reduced_schedules, none_asleep};
-ghost use Rattle.walk_items.specs.declared.mode.Mode.{Mode};
-ghost use Rattle.walk_items.specs.declared.mode.Mode.TheVariants.{Bounded, Reduced};
-ghost use Rattle.walk_summary.specs.Summaries.{cut, greatest_count, sum_of, join, with_beyond};
+ghost use Rattle.walk_items.specs.FullSums.{full_sum, full_sums};
 ghost use Rattle.walk_items.specs.Items.{ItemView, IsItem, IsScheduleOf, state_of, root_of, schedules_of, goes_beyond, item_sum, item_sums, schedule_count, is_under};
 ghost use Rattle.walk_items.specs.Walks.{WalkView, IsWalked, IsBelow, IsDeferred, HasAllPast, tried_by};
-ghost use Rattle.walk_items.specs.FullSums.{full_sum, full_sums};
+ghost use Rattle.walk_items.specs.declared.mode.Mode.{Mode, TheVariants.{Bounded, Reduced}};
+ghost use Rattle.walk_summary.specs.Summaries.{cut, greatest_count, sum_of, join, with_beyond};
 
 use crate::limits::BOUND;
 

@@ -3,9 +3,8 @@
 
 ghost use Rattle.std.specs.Prelude.{◌≡◌, ◌+◌, ◌-◌, ◌<◌, ◌≤◌, [], ◌++◌, ◌∷◌, length, max, vec_len, take, drop, IfOk, OnOk, All};
 ghost use Rattle.std.specs.Arc.{arc_value};
-ghost use Rattle.walk_items.specs.Items.{AreOf, IsItem, item_at};
+ghost use Rattle.walk_items.specs.{Items.{AreOf, IsItem, item_at}, Walks.items_at};
 ghost use Rattle.walk_prefixes.specs.PrefixLists.{last_of};
-ghost use Rattle.walk_items.specs.Walks.{items_at};
 
 use crate::item::Item;
 use guest_code::program::Program;

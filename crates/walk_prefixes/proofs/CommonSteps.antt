@@ -1,11 +1,10 @@
 -- How many steps two prefixes begin with alike.
 use Rattle.std.proofs.Common.{◌≡◌, ℕ, zero, suc, ◌+◌, ◌-◌, ◌<◌, ◌≤◌, Bool, true, false, cond, nat_eq, List, [], ◌∷◌, ◌++◌, length, get_or, take, drop, refl, ap, sym, ◌∙◌, subst, arith, inl, inr}
-use Rattle.std.proofs.lemmas.Bool.{cases_lt}
-use Rattle.std.proofs.lemmas.Bool.Decides.{nat_tests}
+use Rattle.std.proofs.lemmas.Bool.{cases_lt, Decides.nat_tests}
 use Rattle.std.proofs.lemmas.List.{take_rest, length-take, length-take-le, length-drop, get_or-take, get_or-drop, get_or_past}
 use Rattle.std.proofs.lemmas.Nat.{le_bytes_8}
-use Rattle.walk_prefixes.specs.inner.Packed.{number_at, before, tail_of, start_of, end_of, dropped_of}
 use Rattle.walk_prefixes.specs.PrefixLists.{common_length}
+use Rattle.walk_prefixes.specs.inner.Packed.{number_at, before, tail_of, start_of, end_of, dropped_of}
 
 pub common_is : (n : ℕ) (a b : List ℕ) → n ≤ length a → n ≤ length b → take n a ≡ take n b →
     (n < length a → n < length b → get_or a n 0 ≡ get_or b n 0 → ⊥) → common_length a b ≡ n

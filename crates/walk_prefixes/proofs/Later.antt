@@ -1,11 +1,9 @@
 -- What comes after a schedule.
 use Rattle.std.proofs.Common.{◌≡◌, ℕ, suc, ◌+◌, ◌-◌, ◌<◌, ◌≤◌, Bool, true, false, cond, not, ◌&&◌, ◌||◌, nat_eq, nat_lt, List, [], ◌∷◌, ◌++◌, length, take, get_or, refl, ◌∙◌, sym, ap, arith}
-use Rattle.std.specs.List.{filter, count_by}
-use Rattle.std.proofs.Math.Seq.{take-suc}
-use Rattle.std.proofs.lemmas.List.{append-nil, take_at, take_all, length_push, get_or_push}
-use Rattle.std.proofs.lemmas.List.Elements.{filter-append}
-use Rattle.std.proofs.lemmas.List.Sums.{sum_by-append}
+use Rattle.std.{specs.List.{filter, count_by}, proofs.Math.Seq.take-suc}
 use Rattle.std.proofs.lemmas.Bool.Decides.{nat_tests}
+use Rattle.std.proofs.lemmas.List.{append-nil, take_at, take_all, length_push, get_or_push}
+use Rattle.std.proofs.lemmas.List.{Elements.filter-append, Sums.sum_by-append}
 use Rattle.walk_prefixes.specs.PrefixLists.{common_length, is_later, last_of}
 
 -- it differs at the first place at which the two aren't alike

@@ -1,9 +1,8 @@
 -- What a list's own fields say of it, and how they hold one prefix more.
 use Rattle.std.proofs.Common.{◌≡◌, ℕ, Bool, ◌+◌, ◌-◌, ◌^◌, ◌<◌, ◌≤◌, false, List, [], ◌∷◌, ◌++◌, length, take, drop, sym, ◌∙◌, ap, arith, length-drop, vec_capacity}
 use Rattle.std.proofs.lemmas.List.{length_push, take_rest}
-use Rattle.walk_prefixes.specs.declared.prefixes.Prefixes.TheInside.{Inside}
+use Rattle.walk_prefixes.specs.{PrefixLists.last_of, declared.prefixes.Prefixes.TheInside.Inside}
 use Rattle.walk_prefixes.specs.inner.Packed.{IsPacked, IsCounted, IsStack, way_bytes, start_of, before, removed_of, listed}
-use Rattle.walk_prefixes.specs.PrefixLists.{last_of}
 use Rattle.walk_prefixes.proofs.PackedPrefixes.{CameOff, comes_off, Holds, held_count, packed_stack, packed_few, packed_more, length_listed, listed_none, last_of_listed, pushed, grown_after}
 
 -- the invariant of a list

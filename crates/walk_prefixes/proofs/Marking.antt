@@ -1,14 +1,13 @@
 -- Which prefixes of a list are removed in place.
 use Rattle.std.proofs.Common.{◌≡◌, ℕ, zero, suc, ◌+◌, ◌-◌, ◌*◌, ◌<◌, ◌≤◌, Bool, true, false, cond, not, ◌||◌, ◌&&◌, ◌⊎◌, inl, inr, nat_lt, List, [], ◌∷◌, ◌++◌, length, take, drop, set, get_or, filter, refl, sym, ◌∙◌, ap, subst, arith, append_assoc, length-append}
-use Rattle.std.specs.Int.{to_le_bytes, w64}
-use Rattle.std.proofs.Math.Seq.{set-append_seam}
+use Rattle.std.{specs.Int.{to_le_bytes, w64}, proofs.Math.Seq.set-append_seam}
 use Rattle.std.proofs.lemmas.Bool.{and_parts, ltb-true}
 use Rattle.std.proofs.lemmas.List.{append-nil, take_at, drop_at, take-append-drop, set-append_right, length-take-le, length_push, get_or_push}
 use Rattle.std.proofs.lemmas.List.Elements.{filter-append}
-use Rattle.walk_prefixes.specs.inner.Packed.{Way, mark, way_bytes, ways_bytes, first_by, AreWays, IsStack, IsCounted, back, before, start_of, end_of, dropped_of, removed_of, unless, listed}
 use Rattle.walk_prefixes.specs.PrefixLists.{common_length, is_later, last_of}
-use Rattle.walk_prefixes.proofs.WayBytes.{before-way, removed_of-way, length-way, reads}
+use Rattle.walk_prefixes.specs.inner.Packed.{Way, mark, way_bytes, ways_bytes, first_by, AreWays, IsStack, IsCounted, back, before, start_of, end_of, dropped_of, removed_of, unless, listed}
 use Rattle.walk_prefixes.proofs.PackedPrefixes.{listed_one, listed_push, first_by-append, ways_bytes-append, length-before, last_short}
+use Rattle.walk_prefixes.proofs.WayBytes.{before-way, removed_of-way, length-way, reads}
 
 -- the schedules before the last one, without those that are removed
 unfoldable pub earlier : List Way → List ℕ → List (List ℕ)

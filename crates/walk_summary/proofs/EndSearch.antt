@@ -1,14 +1,12 @@
 -- Where an end view stands in a sorted list.
-use Rattle.std.proofs.Common.{◌≡◌, ℕ, zero, suc, ◌<◌, ◌≤◌, List, [], ◌∷◌, length, get_or, Result, Ok, Err, refl, ap, ◌∙◌, arith}
 use Rattle.std.specs.Prelude.{insert}
-use Rattle.std.specs.List.Sorted.{IsStrictlySortedBy, IsBinarySearchResult, IsNonDecreasingBy, IsSearchInRange}
-use Rattle.std.specs.declared.cmp.Ordering.{Ordering}
-use Rattle.std.specs.declared.cmp.Ordering.TheVariants.{Less, Equal, Greater}
-use Rattle.std.specs.Ordering.{ordering_index, ordering_reverse}
+use Rattle.std.proofs.Common.{◌≡◌, ℕ, zero, suc, ◌<◌, ◌≤◌, List, [], ◌∷◌, length, get_or, Result, Ok, Err, refl, ap, ◌∙◌, arith}
 use Rattle.std.specs.FinMap.Entries.{by_order}
+use Rattle.std.specs.List.Sorted.{IsStrictlySortedBy, IsBinarySearchResult, IsNonDecreasingBy, IsSearchInRange}
+use Rattle.std.specs.{Ordering.{ordering_index, ordering_reverse}, declared.cmp.Ordering.Ordering}
+use Rattle.std.specs.declared.cmp.Ordering.TheVariants.{Less, Equal, Greater}
 use Rattle.semantics.specs.View.{View, view_cmp}
-use Rattle.walk_summary.specs.Summaries.{with_view}
-use Rattle.walk_summary.specs.inner.EndPlaces.{IsPlaceOf}
+use Rattle.walk_summary.specs.{Summaries.with_view, inner.EndPlaces.IsPlaceOf}
 use Rattle.walk_summary.proofs.SortedViews.{After, view_total, view_same, with_view_there}
 
 -- how a view of a list compares with the one that is looked for

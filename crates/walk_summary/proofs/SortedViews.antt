@@ -1,24 +1,21 @@
 -- End views, sorted by their order, each once.
-use Rattle.std.proofs.Common.{◌≡◌, true≢false, subst, ◌↔◌, ◌⊎◌, inl, inr, ℕ, zero, suc, Bool, true, false, cond, ◌||◌, List, [], ◌∷◌, ◌++◌, length, map, Option, Some, None, is_some, refl, ap, ◌∙◌, sym, arith, ◌+◌, ◌<◌, take, get_or}
-use Rattle.std.proofs.lemmas.List.{append_assoc, append-nil, take_more}
-use Rattle.std.proofs.lemmas.List.Elements.{Contains-append_left, Contains-append_right, Contains-append_cases}
-use Rattle.std.proofs.lemmas.List.Folds.{list_any-append, Any-from_list_any, list_any-from_Any}
-use Rattle.std.proofs.Math.Bool.{or_comm, or_assoc, or-false}
-use Rattle.std.specs.List.{list_any, Any, Contains, AllByRecursion, AllAdjacentBelow, IsAllAdjacentAnswer}
 use Rattle.std.specs.Prelude.{IsTrue}
-use Rattle.std.specs.List.Sorted.{IsStrictlySortedBy}
-use Rattle.std.specs.declared.cmp.Ordering.{Ordering}
-use Rattle.std.specs.declared.cmp.Ordering.TheVariants.{Less, Equal, Greater}
-use Rattle.std.specs.Ordering.{nat_cmp, int_cmp, is_eq, is_lt, eq_by_cmp, ordering_then, ordering_reverse}
+use Rattle.std.proofs.Common.{◌≡◌, true≢false, subst, ◌↔◌, ◌⊎◌, inl, inr, ℕ, zero, suc, Bool, true, false, cond, ◌||◌, List, [], ◌∷◌, ◌++◌, length, map, Option, Some, None, is_some, refl, ap, ◌∙◌, sym, arith, ◌+◌, ◌<◌, take, get_or}
 use Rattle.std.specs.Cmp.{IsTotalOrder, then_total, on_total, nat_cmp_total, int_cmp_total}
-use Rattle.std.proofs.lemmas.Cmp.{tied_itself}
 use Rattle.std.specs.Cmp.Lexicographic.{slice_cmp, lists_total}
 use Rattle.std.specs.FinMap.{entries, from_entries, get, find, put, entries-insert, get-from_entries, same_map, len-entries, len-empty, empty}
 use Rattle.std.specs.FinMap.Entries.{is_some-find, by_order}
 use Rattle.std.specs.FinSet.{IsAntisymmetric, slice_cmp-IsAntisymmetric, int_cmp-IsAntisymmetric, nat_cmp-IsAntisymmetric}
-use Rattle.semantics.specs.declared.view.Kind.{Kind}
+use Rattle.std.specs.List.{list_any, Any, Contains, AllByRecursion, AllAdjacentBelow, IsAllAdjacentAnswer}
+use Rattle.std.specs.List.Sorted.{IsStrictlySortedBy}
+use Rattle.std.specs.Ordering.{nat_cmp, int_cmp, is_eq, is_lt, eq_by_cmp, ordering_then, ordering_reverse}
+use Rattle.std.specs.declared.cmp.Ordering.{Ordering, TheVariants.{Less, Equal, Greater}}
+use Rattle.std.proofs.{Math.Bool.{or_comm, or_assoc, or-false}, lemmas.Cmp.tied_itself}
+use Rattle.std.proofs.lemmas.List.{append_assoc, append-nil, take_more}
+use Rattle.std.proofs.lemmas.List.Elements.{Contains-append_left, Contains-append_right, Contains-append_cases}
+use Rattle.std.proofs.lemmas.List.Folds.{list_any-append, Any-from_list_any, list_any-from_Any}
+use Rattle.semantics.specs.{View.{View, view_cmp, kind_rank}, declared.view.Kind.Kind}
 use Rattle.semantics.specs.declared.view.Kind.TheVariants.{Done, Failed, Stuck}
-use Rattle.semantics.specs.View.{View, view_cmp, kind_rank}
 use Rattle.walk_summary.specs.Summaries.{with_view, sorted_views}
 
 pub view_total : IsTotalOrder view_cmp

@@ -1,18 +1,13 @@
 -- Sums of lists of schedules: a list followed by another has the join of their sums, and what each
 -- sum keeps.
 use Rattle.std.proofs.Common.{◌≡◌, ◌↔◌, ◌⊎◌, ℕ, ◌+◌, ◌≤◌, ◌<◌, inl, inr, ⊎_elim, Bool, true, false, cond, ◌||◌, nat_lt, List, [], ◌∷◌, ◌++◌, length, map, Option, Some, None, is_some, refl, ap, ◌∙◌, sym, subst, arith, length-append}
-use Rattle.std.proofs.lemmas.List.{map-append, append-nil}
-use Rattle.std.proofs.lemmas.List.Elements.{filter-append}
-use Rattle.std.proofs.lemmas.List.Sums.{sum_by-append, length-filter}
-use Rattle.std.proofs.lemmas.Bool.{cases_lt}
+use Rattle.std.specs.List.{filter, count_by, list_any, Contains, Sorted.IsStrictlySortedBy}
 use Rattle.std.proofs.Math.Bool.{or_comm, or_assoc, or-false, or-true}
-use Rattle.std.proofs.lemmas.Bool.Decides.{nat_tests}
-use Rattle.std.specs.List.{filter, count_by, list_any, Contains}
-use Rattle.semantics.specs.declared.view.Kind.{Kind}
+use Rattle.std.proofs.lemmas.{Bool.cases_lt, Bool.Decides.nat_tests, List.{map-append, append-nil}}
+use Rattle.std.proofs.lemmas.List.{Elements.filter-append, Sums.{sum_by-append, length-filter}}
+use Rattle.semantics.specs.{View.{View, view_cmp, is_bad}, declared.view.Kind.Kind}
 use Rattle.semantics.specs.declared.view.Kind.TheVariants.{Done, Failed, Stuck}
 use Rattle.guest_code.specs.Program.{Program}
-use Rattle.std.specs.List.Sorted.{IsStrictlySortedBy}
-use Rattle.semantics.specs.View.{View, view_cmp, is_bad}
 use Rattle.semantics_schedules.specs.Order.{end_of, lesser, least, precedes}
 use Rattle.walk_summary.specs.Summaries.{SummaryView, IsSummary, nothing, cut, greatest_count, is_failed, is_stuck, end_kind, with_view, sorted_views, sum_of, join, with_beyond, added, counted_if, first_bad_with}
 use Rattle.walk_summary.proofs.LesserSchedules.{lesser_assoc, lesser_comm, lesser_none, least-append}

@@ -1,14 +1,11 @@
 -- The sum of a list of complete schedules, one schedule more, the join of two sums, and when one is
 -- bounded by another.
 use Rattle.std.specs.Prelude.{◌≡◌, ℕ, ℤ, ◌+◌, ◌-◌, ◌^◌, ◌≤◌, min, nat_lt, Bool, true, false, ◌||◌, List, [], ◌∷◌, ◌++◌, length, map, filter, count_by, Option, Some, None, is_some, option_map, if◌then◌else◌, All, Contains}
-use Rattle.std.specs.declared.alloc.Global.{Global}
-use Rattle.std.specs.declared.vec.Vec.{Vec}
-use Rattle.std.specs.FinMap.Entries.{by_order}
-use Rattle.std.specs.List.Sorted.{IsStrictlySortedBy}
-use Rattle.semantics.specs.declared.view.Kind.{Kind}
+use Rattle.std.specs.{FinMap.Entries.by_order, List.Sorted.IsStrictlySortedBy}
+use Rattle.std.specs.declared.{alloc.Global.Global, vec.Vec.Vec}
+use Rattle.semantics.specs.{View.{View, view_cmp, is_bad}, declared.view.Kind.Kind}
 use Rattle.semantics.specs.declared.view.Kind.TheVariants.{Done, Failed, Stuck}
 use Rattle.guest_code.specs.Program.{Program}
-use Rattle.semantics.specs.View.{View, view_cmp, is_bad}
 use Rattle.semantics_schedules.specs.Order.{end_of, lesser, least}
 use Rattle.walk_summary.specs.declared.summary.Counts.{Counts}
 

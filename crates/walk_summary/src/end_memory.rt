@@ -1,8 +1,7 @@
 //! What makes adding to a summary fast: hints at where end views stand, and memory to use again.
 
 ghost use Rattle.std.specs.Prelude.{◌≡◌, ◌<◌, [], IfOk};
-ghost use Rattle.walk_summary.specs.declared.end_memory.TheConstants.{PLACES};
-ghost use Rattle.walk_summary.specs.Summaries.{end_with};
+ghost use Rattle.walk_summary.specs.{Summaries.end_with, declared.end_memory.TheConstants.PLACES};
 
 use semantics::view::{EndView, Kind};
 use std::alloc::{AllocError, Global};

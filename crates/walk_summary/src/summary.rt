@@ -1,8 +1,7 @@
 //! Summaries of schedules: how many were tried, how they ended, and the first bad one.
 
 ghost use Rattle.std.specs.Prelude.{◌≡◌, ◌+◌, ◌<◌, ◌≤◌, IfOk, OnErr, IsOk, IsTrue, MatchOption, Some, None, true, false, ◌++◌, ◌⊎◌, [], length, is_ok, ◌↔◌, if◌then◌else◌, vec_len, vec_capacity};
-ghost use Rattle.std.specs.List.Sorted.{IsStrictlySortedBy};
-ghost use Rattle.std.specs.Option.{option_or};
+ghost use Rattle.std.specs.{List.Sorted.IsStrictlySortedBy, Option.option_or};
 ghost use Rattle.semantics_schedules.specs.Order.{precedes, lesser};
 ghost use Rattle.semantics.specs.View.{is_bad, view_cmp};
 ghost use Rattle.walk_summary.specs.Summaries.{SummaryView, IsSummary, summary_of, schedule_view, cut, nothing, is_failed, is_stuck, with_view, sorted_views, join, with_beyond, added, counted_if, first_bad_with, end_with};

@@ -5,9 +5,8 @@ use Rattle.std.specs.List.{All, sum_by}
 use mathlib.Core.Option.{some}
 use lib.ListN.{get_elem?}
 use Rattle.atomic_table.specs.Table.{Me}
-use Rattle.board.specs.declared.account.Account.{Account}
+use Rattle.board.specs.{Claims.{times, IsOneBelow}, declared.account.Account.Account}
 use Rattle.board.specs.declared.board.TheConstants.{NONE_TOLD, WORDS, DRAWN, LEAST}
-use Rattle.board.specs.Claims.{times, IsOneBelow}
 
 abbrev pub account : ℕ → ℕ → ℕ → List ℕ → List ℕ → List ℕ → Account
 account limit seats marks drawn told answered = record {

@@ -1,8 +1,7 @@
 use Rattle.std.proofs.Common.{◌++◌, arith}
 use Rattle.semantics_schedules.specs.Schedules.{begins_with}
-use Rattle.walk_items.specs.Walks.{IsBelow}
+use Rattle.walk_items.{specs.Walks.IsBelow, proofs.Covers.{at_most_one, covers-append}}
 use Rattle.walk_items.proofs.ListParts.{all_left, all_right}
-use Rattle.walk_items.proofs.Covers.{at_most_one, covers-append}
 use Rattle.walk_items.proofs.WalkedItems.{HasItsOf, one_place, rest_has}
 use Rattle.book.specs.Books.{items_left}
 use Rattle.book_laws.proofs.dropping_keeps_the_open.Goals as goal

@@ -1,6 +1,5 @@
 use Rattle.walk_items.proofs.Splits.{split_sum}
-use Rattle.book.specs.Books.{with_deferred}
-use Rattle.book.proofs.BoundedSums.{thinned_bounded}
+use Rattle.book.{specs.Books.with_deferred, proofs.BoundedSums.thinned_bounded}
 use Rattle.book.proofs.Kept.{kept_whole, kept_within, kept_thinned}
 use Rattle.book_laws.proofs.every_book_joins.Goals as goal
 

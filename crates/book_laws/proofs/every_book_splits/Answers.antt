@@ -1,8 +1,5 @@
-use Rattle.walk_items.specs.Walks.{IsBelow}
-use Rattle.walk_items.proofs.ListParts.{all_left}
-use Rattle.walk_items.proofs.Splits.{split_part}
-use Rattle.book.proofs.OpenItems.{left_below}
-use Rattle.book.proofs.Kept.{kept_whole, kept_within, kept_schedules}
+use Rattle.walk_items.{specs.Walks.IsBelow, proofs.ListParts.all_left, proofs.Splits.split_part}
+use Rattle.book.proofs.{Kept.{kept_whole, kept_within, kept_schedules}, OpenItems.left_below}
 use Rattle.book_laws.proofs.every_book_splits.Goals as goal
 
 pub returns-clause-below : goal.returns-clause-below

@@ -1,6 +1,5 @@
 use Rattle.walk_items.proofs.WalkedItems.{one_place}
-use Rattle.book.specs.Books.{items_left}
-use Rattle.book.proofs.Kept.{kept_apart}
+use Rattle.book.{specs.Books.items_left, proofs.Kept.kept_apart}
 use Rattle.book_laws.proofs.no_book_has_a_schedule_twice.Goals as goal
 
 pub returns : goal.returns

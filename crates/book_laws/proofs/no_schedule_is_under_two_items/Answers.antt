@@ -1,7 +1,6 @@
 use Rattle.std.proofs.Common.{arith}
 use Rattle.semantics_schedules.specs.Schedules.{begins_with}
-use Rattle.walk_items.proofs.Covers.{at_most_one}
-use Rattle.walk_items.proofs.WalkedItems.{one_place}
+use Rattle.walk_items.proofs.{Covers.at_most_one, WalkedItems.one_place}
 use Rattle.book.specs.Books.{items_left}
 use Rattle.book_laws.proofs.no_schedule_is_under_two_items.Goals as goal
 

@@ -1,6 +1,5 @@
 use Rattle.std.proofs.Common.{subst}
-use Rattle.walk_items.specs.declared.mode.Mode.{Mode}
-use Rattle.walk_items.specs.Walks.{IsSplit, IsWithin}
+use Rattle.walk_items.specs.{Walks.{IsSplit, IsWithin}, declared.mode.Mode.Mode}
 use Rattle.walk_items.proofs.Splits.{split_full}
 use Rattle.book_laws.proofs.nothing_is_walked_twice.Goals as goal
 

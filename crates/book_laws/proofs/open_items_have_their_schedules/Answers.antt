@@ -1,6 +1,4 @@
-use Rattle.walk_items.specs.Walks.{IsBelow}
-use Rattle.walk_items.proofs.ListParts.{all_left}
-use Rattle.walk_items.proofs.WalkedItems.{rest_has}
+use Rattle.walk_items.{specs.Walks.IsBelow, proofs.ListParts.all_left, proofs.WalkedItems.rest_has}
 use Rattle.book_laws.proofs.open_items_have_their_schedules.Goals as goal
 
 pub returns-clause-below : goal.returns-clause-below

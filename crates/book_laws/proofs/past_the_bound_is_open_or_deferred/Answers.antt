@@ -1,11 +1,8 @@
 use Rattle.std.proofs.Common.{subst}
 use Rattle.semantics.specs.Machine.{start}
-use Rattle.semantics_schedules.proofs.SchedulesUnderPrefix.{in_under}
-use Rattle.semantics_schedules.proofs.StatedLaws.{complete}
-use Rattle.walk_items.specs.declared.mode.Mode.{Mode}
-use Rattle.walk_items.specs.Walks.{IsBelow, IsCut, IsSplit, IsWithin}
-use Rattle.walk_items.proofs.ListParts.{all_right}
-use Rattle.walk_items.proofs.Splits.{split_past}
+use Rattle.semantics_schedules.proofs.{SchedulesUnderPrefix.in_under, StatedLaws.complete}
+use Rattle.walk_items.specs.{Walks.{IsBelow, IsCut, IsSplit, IsWithin}, declared.mode.Mode.Mode}
+use Rattle.walk_items.proofs.{ListParts.all_right, Splits.split_past}
 use Rattle.book_laws.proofs.past_the_bound_is_open_or_deferred.Goals as goal
 
 pub returns-clause-all : goal.returns-clause-all

@@ -1,6 +1,5 @@
 use Rattle.std.proofs.Common.{subst}
-use Rattle.walk_items.specs.declared.mode.Mode.{Mode}
-use Rattle.walk_items.specs.Walks.{IsCut}
+use Rattle.walk_items.specs.{Walks.IsCut, declared.mode.Mode.Mode}
 use Rattle.book_laws.proofs.pruned_books_defer_nothing.Goals as goal
 
 pub returns : goal.returns

@@ -1,12 +1,9 @@
 -- Steps that can be taken back one after the other.
 use Rattle.std.specs.Prelude.{◌≡◌, List, [], ◌∷◌, reverse}
 use Rattle.guest_code.specs.Program.{Program}
+use Rattle.semantics.specs.{Machine.Snapshot, Reachable.IsOf, Undoing.{undone, IsRecordOf}}
 use Rattle.semantics.specs.declared.undo.Undo.{Undo}
-use Rattle.semantics.specs.Machine.{Snapshot}
-use Rattle.semantics.specs.Reachable.{IsOf}
-use Rattle.semantics.specs.Undoing.{undone, IsRecordOf}
-use Rattle.check_lint.specs.declared.exploration.Frame.{Frame}
-use Rattle.check_lint.specs.declared.exploration.Exploration.{Exploration}
+use Rattle.check_lint.specs.declared.exploration.{Exploration.Exploration, Frame.Frame}
 
 -- by this record a state goes back to the one before it
 pub record TakesBack (p : Program) (u : Undo) (old new : Snapshot) : Type 0 where

@@ -1,9 +1,8 @@
 -- How marks of instructions are added.
 use Rattle.std.specs.Prelude.{◌≡◌, ℕ, ◌⊎◌, Bool, List, Option, Some}
 use Rattle.guest_code.specs.declared.program.Instruction.{Instruction}
-use Rattle.check_lint.specs.declared.paths.Mark.{Mark}
+use Rattle.check_lint.specs.{Paths.{Goes, after, Marked}, declared.paths.Mark.Mark}
 use Rattle.check_lint.specs.declared.paths.Watch.{Watch}
-use Rattle.check_lint.specs.Paths.{Goes, after, Marked}
 
 -- marks are added for these, and no others
 pub record Grows (old new : List Mark) (More : ℕ → Bool → Type 0) : Type 0 where

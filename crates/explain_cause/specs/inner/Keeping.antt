@@ -1,16 +1,14 @@
 -- What is kept of what the events from a place on need, and how it changes from one to the other.
 use Rattle.std.specs.Prelude.{◌≡◌, ℕ, nat_eq, nat_lt, ◌<◌, ◌-◌, Bool, false, not, ◌||◌, ◌&&◌, List, [], Option, Some, None, slice_index_or, if◌then◌else◌}
 use Rattle.std.specs.List.{list_any}
-use Rattle.guest_code.specs.declared.limits.TheConstants.{LOCALS, THREADS, VARIABLES}
 use Rattle.guest_code.specs.Program.{Program, code_of}
-use Rattle.explain_cause.specs.declared.event.Event.{Event}
-use Rattle.explain_cause.specs.declared.backward_slice.BackwardSlice.{BackwardSlice}
-use Rattle.check_lint.specs.Uses.{local_set}
+use Rattle.guest_code.specs.declared.limits.TheConstants.{LOCALS, THREADS, VARIABLES}
+use Rattle.explain_cause.specs.{Asked.asks_for, Causes.{any_below, ends_with, is_below, least_with}}
 use Rattle.explain_cause.specs.Events.{written_by, is_end, reads, writes, is_use, sets_local, uses_local}
-use Rattle.explain_cause.specs.Asked.{asks_for}
-use Rattle.check_lint.specs.Paths.{is_test}
 use Rattle.explain_cause.specs.Tests.{merge_point, passes_write}
-use Rattle.explain_cause.specs.Causes.{any_below, ends_with, is_below, least_with}
+use Rattle.explain_cause.specs.declared.backward_slice.BackwardSlice.{BackwardSlice}
+use Rattle.explain_cause.specs.declared.event.Event.{Event}
+use Rattle.check_lint.specs.{Paths.is_test, Uses.local_set}
 
 -- the flag of a number, if it is there
 abbrev pub found : List Bool → Option ℕ → Bool

@@ -1,8 +1,7 @@
 -- What a thread does by itself, after one of its instructions.
 use Rattle.std.specs.Prelude.{ℕ, ℤ, List, [], Option, Some, None}
 use Rattle.guest_code.specs.declared.program.Instruction.{Instruction}
-use Rattle.explain_cause.specs.declared.event.Event.{Event}
-use Rattle.explain_cause.specs.Course.{local_events, locals_after}
+use Rattle.explain_cause.specs.{Course.{local_events, locals_after}, declared.event.Event.Event}
 
 -- what it does from here on, where `skip` instructions are passed over first, or it stays
 abbrev pub events_on :

@@ -1,12 +1,11 @@
 -- What is known of the events of a run, and of what is kept of them.
 use Rattle.std.specs.Prelude.{◌≡◌, ℕ, ◌<◌, false, List, [], length, None, slice_index_or}
 use Rattle.std.specs.List.{count_by}
-use Rattle.guest_code.specs.declared.limits.TheConstants.{LOCALS, THREADS, VARIABLES}
 use Rattle.guest_code.specs.Program.{Program, code_of, IsValid}
-use Rattle.explain_cause.specs.declared.event.Event.{Event}
-use Rattle.explain_cause.specs.declared.backward_slice.BackwardSlice.{BackwardSlice}
-use Rattle.explain_cause.specs.Events.{is_use}
+use Rattle.guest_code.specs.declared.limits.TheConstants.{LOCALS, THREADS, VARIABLES}
 use Rattle.explain_cause.specs.Causes.{Marked, is_read, is_used, is_next, least_in, ends_in}
+use Rattle.explain_cause.specs.{Events.is_use, declared.backward_slice.BackwardSlice.BackwardSlice}
+use Rattle.explain_cause.specs.declared.event.Event.{Event}
 
 -- the numbers of an event are in range
 pub record IsValidEvent (p : Program) (e : Event) : Type 0 where

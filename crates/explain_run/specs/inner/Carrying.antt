@@ -3,9 +3,8 @@ use Rattle.std.specs.Prelude.{◌≡◌, ℕ, ◌<◌, List, length, take, nat_e
 use Rattle.guest_code.specs.Program.{Program}
 use Rattle.semantics.specs.Machine.{Snapshot, owner_of}
 use Rattle.semantics_schedules.specs.Execution.{IsExecutionOf, Reaches}
-use Rattle.explain_run.specs.declared.explanation.Holder.{Holder}
-use Rattle.explain_run.specs.declared.explanation.Run.{Run}
 use Rattle.explain_run.specs.Explains.{TellsSteps, TellsHolders, StopsAt}
+use Rattle.explain_run.specs.declared.explanation.{Holder.Holder, Run.Run}
 
 -- the owner since a step or since before
 abbrev pub kept_or_new : Holder → ℕ → ℕ → Holder

@@ -1,7 +1,6 @@
 -- A local run, one instruction after the other.
 use Rattle.std.specs.Prelude.{ℕ, ℤ, pos, List, [], ◌∷◌, slice_index_or}
-use Rattle.guest_code.specs.declared.program.Instruction.{Instruction}
-use Rattle.guest_code.specs.declared.program.Instruction.TheVariants.{Set}
+use Rattle.guest_code.specs.declared.program.Instruction.{Instruction, TheVariants.Set}
 use Rattle.explain_run.specs.declared.assignments.Assignment.{Assignment}
 
 -- what the instruction of this number has set, where the locals have these values after it

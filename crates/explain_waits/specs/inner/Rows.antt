@@ -1,18 +1,12 @@
 -- Lists and sets, for each thread.
 use Rattle.std.specs.Prelude.{◌≡◌, ℕ, ◌<◌, ◌⊎◌, true, false, ◌&&◌, ◌||◌, List, [], length, map, Some, IsTrue, slice_index_or}
 use Rattle.std.proofs.Common.{Vec, Global}
-use Rattle.guest_code.specs.declared.program.Instruction.{Instruction}
+use Rattle.guest_code.specs.{Program.{Program, code_of}, declared.program.Instruction.Instruction}
 use Rattle.guest_code.specs.declared.program.Instruction.TheVariants.{Skip}
-use Rattle.guest_code.specs.Program.{Program, code_of}
-use Rattle.semantics.specs.declared.mask.Mask.{Mask}
-use Rattle.semantics.specs.Mask.{has}
-use Rattle.explain_waits.specs.declared.ending.Blocked.{Blocked}
-use Rattle.explain_waits.specs.declared.fate.Fate.{Fate}
-use Rattle.explain_waits.specs.declared.fate.Fate.TheVariants.{Ahead, OutOfReach}
-use Rattle.explain_waits.specs.declared.look.Look.{Look}
-use Rattle.explain_waits.specs.Fates.{is_to_come}
-use Rattle.explain_waits.specs.Endings.{could_end, writes_one}
-use Rattle.explain_waits.specs.Graph.{row}
+use Rattle.semantics.specs.{Mask.has, declared.mask.Mask.Mask}
+use Rattle.explain_waits.specs.{Endings.{could_end, writes_one}, Fates.is_to_come, Graph.row}
+use Rattle.explain_waits.specs.declared.{ending.Blocked.Blocked, fate.Fate.Fate}
+use Rattle.explain_waits.specs.declared.{fate.Fate.TheVariants.{Ahead, OutOfReach}, look.Look.Look}
 
 -- the lists themselves
 abbrev pub lists : List (Vec Fate Global) → List (List Fate)

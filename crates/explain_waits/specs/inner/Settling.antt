@@ -1,9 +1,7 @@
 -- The code of a thread as its locals decide it, and how far ways have come.
 use Rattle.std.specs.Prelude.{◌≡◌, ℕ, ◌<◌, ◌↔◌, ◌⊎◌, ℤ, Bool, true, false, IsTrue, List, length, slice_index_or}
-use Rattle.guest_code.specs.declared.program.Instruction.{Instruction}
-use Rattle.guest_code.specs.declared.program.Instruction.TheVariants.{Skip}
-use Rattle.check_lint.specs.Paths.{Comes}
-use Rattle.check_lint.specs.declared.paths.Watch.TheVariants.{IsSet}
+use Rattle.guest_code.specs.declared.program.Instruction.{Instruction, TheVariants.Skip}
+use Rattle.check_lint.specs.{Paths.Comes, declared.paths.Watch.TheVariants.IsSet}
 use Rattle.explain_waits.specs.Ways.{tests, decided, IsOpen, GoesOn, Way}
 
 -- instruction k is a test of a local below n that some path to it sets

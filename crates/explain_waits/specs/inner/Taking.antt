@@ -1,13 +1,11 @@
 -- How the fates of the instructions of a thread are put down.
 use Rattle.std.specs.Prelude.{◌≡◌, ℕ, ◌<◌, ℤ, Bool, false, ◌||◌, if◌then◌else◌, List, length, slice_set, slice_index_or}
 use Rattle.guest_code.specs.declared.program.Instruction.{Instruction}
-use Rattle.check_lint.specs.declared.paths.Mark.{Mark}
+use Rattle.check_lint.specs.{Paths.Marks, declared.paths.Mark.Mark}
 use Rattle.check_lint.specs.declared.paths.Watch.TheVariants.{Nothing}
-use Rattle.check_lint.specs.Paths.{Marks}
 use Rattle.explain_run.specs.declared.step.Step.{Step}
-use Rattle.explain_waits.specs.declared.fate.Fate.{Fate}
+use Rattle.explain_waits.specs.{Fates.IsFate, declared.fate.Fate.Fate}
 use Rattle.explain_waits.specs.declared.fate.Fate.TheVariants.{Taken, Ahead, Perhaps, OutOfReach}
-use Rattle.explain_waits.specs.Fates.{IsFate}
 use Rattle.explain_waits.specs.inner.Settling.{IsSettled, ReachesTo}
 
 -- what an instruction is by its mark, and by whether a way passes it by, before any step

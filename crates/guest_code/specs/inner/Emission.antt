@@ -1,17 +1,15 @@
 -- What the code of the lowering adds, of names and trees in memory.
 use Rattle.std.specs.Prelude.{◌≡◌, ℕ, List, ◌++◌, map, Option, Result, OnOk}
 use Rattle.std.proofs.Common.{Vec, Global}
-use Rattle.guest_syntax.specs.declared.tree.Object.{Object}
+use Rattle.guest_syntax.specs.Tree.{Stmt, Block, declaration_view, thread_view, block_view}
+use Rattle.guest_syntax.specs.declared.tree.{Object.Object, Placed.Placed}
 use Rattle.guest_syntax.specs.declared.tree.Declaration as code-declaration
 use Rattle.guest_syntax.specs.declared.tree.Thread as code-thread
-use Rattle.guest_syntax.specs.declared.tree.Placed.{Placed}
-use Rattle.guest_syntax.specs.Tree.{Stmt, Block, declaration_view, thread_view, block_view}
+use Rattle.guest_code.specs.Code.{Names, stmt_code, block_code, unrolled, objects_by, thread_code}
+use Rattle.guest_code.specs.{Program.{Thread, names_view}, Sizes.block_size}
+use Rattle.guest_code.specs.declared.program.Instruction.{Instruction}
 use Rattle.guest_code.specs.declared.names.Names as code-names
 use Rattle.guest_code.specs.declared.emit.Context as code-context
-use Rattle.guest_code.specs.declared.program.Instruction.{Instruction}
-use Rattle.guest_code.specs.Program.{Thread, names_view}
-use Rattle.guest_code.specs.Sizes.{block_size}
-use Rattle.guest_code.specs.Code.{Names, stmt_code, block_code, unrolled, objects_by, thread_code}
 
 -- what names in memory stand for
 abbrev pub names_of : code-names.Names → Names

@@ -2,16 +2,14 @@
 -- code of the check answers by it.
 use Rattle.std.specs.Prelude.{◌≡◌, ℕ, List, [], ◌∷◌, map, Option, Some, None, Result, Ok, Err}
 use Rattle.std.proofs.Common.{Vec, Global}
+use Rattle.guest_syntax.specs.Tree.{declaration_view, thread_view, tree_view}
 use Rattle.guest_syntax.specs.declared.tree.Declaration as code-declaration
 use Rattle.guest_syntax.specs.declared.tree.Thread as code-thread
 use Rattle.guest_syntax.specs.declared.tree.Tree as code-tree
-use Rattle.guest_syntax.specs.Tree.{declaration_view, thread_view, tree_view}
-use Rattle.guest_code.specs.declared.check.Scope as code-scope
-use Rattle.guest_code.specs.declared.error.CheckError.{CheckError}
-use Rattle.guest_code.specs.declared.error.CheckError.TheVariants.{LeaveOutside}
-use Rattle.guest_code.specs.Program.{locals_view}
+use Rattle.guest_code.specs.{Fault.{object_refusal, local_refusal, Refuses}, Program.locals_view}
 use Rattle.guest_code.specs.Uses.{Use, declares, object, local, outside, declarations_uses, uses, kind_in, with_name}
-use Rattle.guest_code.specs.Fault.{object_refusal, local_refusal, Refuses}
+use Rattle.guest_code.specs.declared.error.CheckError.{CheckError, TheVariants.LeaveOutside}
+use Rattle.guest_code.specs.declared.check.Scope as code-scope
 
 -- all uses in a tree in memory, in declarations in memory, and in those and threads in memory
 unfoldable pub all_uses : code-tree.Tree → List Use

@@ -1,15 +1,12 @@
 -- Reading literals, operands and expressions from the front of a list of tokens.
 use Rattle.std.specs.Prelude.{ℕ, ℤ, pos, ◌-ℤ◌, List, nat_le, Option, Some, None, if◌then◌else◌}
-use Rattle.guest_syntax.specs.declared.limits.TheConstants.{NUMBER}
-use Rattle.guest_syntax.specs.declared.token.Symbol.TheVariants as symbols
-use Rattle.guest_syntax.specs.declared.tree.Op.{Op}
-use Rattle.guest_syntax.specs.declared.tree.Op.TheVariants as ops
 use Rattle.guest_syntax.specs.Tokens.{TokenKind, name, number, symbol, Token}
-use Rattle.guest_syntax.specs.reader.Scanner.{◌>>=◌}
-use Rattle.guest_syntax.specs.Tree as tree
-use Rattle.guest_syntax.specs.Tree.{Operand, Expr}
-use Rattle.guest_syntax.specs.reader.Reads.{Read}
+use Rattle.guest_syntax.specs.{Tree.{Operand, Expr}, declared.limits.TheConstants.NUMBER}
+use Rattle.guest_syntax.specs.{declared.tree.Op.Op, reader.Reads.Read, reader.Scanner.◌>>=◌}
 use Rattle.guest_syntax.specs.reader.SingleTokens.{token_at, number_from}
+use Rattle.guest_syntax.specs.declared.token.Symbol.TheVariants as symbols
+use Rattle.guest_syntax.specs.declared.tree.Op.TheVariants as ops
+use Rattle.guest_syntax.specs.Tree as tree
 
 abbrev pub negated : ℕ → ℤ
 negated n = pos 0 -ℤ pos n

@@ -1,8 +1,6 @@
 -- Reading items one after the other from the front of a list of tokens.
 use Rattle.std.specs.Prelude.{ℕ, zero, suc, List, [], ◌∷◌, length, Option, Some, None}
-use Rattle.guest_syntax.specs.Tokens.{Token}
-use Rattle.guest_syntax.specs.reader.Scanner.{◌>>=◌}
-use Rattle.guest_syntax.specs.reader.Reads.{Read}
+use Rattle.guest_syntax.specs.{Tokens.Token, reader.Reads.Read, reader.Scanner.◌>>=◌}
 
 -- an item and what comes after it, or the end of the items
 abbrev pub Turn : Type 0 → Type 0

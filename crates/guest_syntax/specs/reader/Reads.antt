@@ -1,16 +1,11 @@
 -- What a method of a reader reads, by a reader of tokens: between the reader before it and after it.
 use Rattle.std.specs.Prelude.{◌≡◌, ◌<◌, [], List, length, IfOk, IfErr, IsSome, Option, Result, Ok, Err, option_map}
-use Rattle.guest_syntax.specs.declared.error.SyntaxError.{SyntaxError}
-use Rattle.guest_syntax.specs.declared.cursor.Cursor.{Cursor}
-use Rattle.guest_syntax.specs.declared.tokens.Reader.{Reader}
-use Rattle.guest_syntax.specs.declared.place.Pos.{Pos}
-use Rattle.guest_syntax.specs.declared.token.Token as code
-use Rattle.guest_syntax.specs.Place.{start, Follows}
-use Rattle.guest_syntax.specs.Tokens.{Token}
 use Rattle.guest_syntax.specs.Answers.{IsTokenIn, IsTokenOrEnd, RefusalIn}
-use Rattle.guest_syntax.specs.reader.Scanner.{first, tokens_from}
-use Rattle.guest_syntax.specs.reader.TokenViews.{token_view}
-use Rattle.guest_syntax.specs.reader.Gives.{Gives}
+use Rattle.guest_syntax.specs.{Place.{start, Follows}, Tokens.Token, declared.cursor.Cursor.Cursor}
+use Rattle.guest_syntax.specs.declared.{error.SyntaxError.SyntaxError, place.Pos.Pos}
+use Rattle.guest_syntax.specs.{declared.tokens.Reader.Reader, reader.Gives.Gives}
+use Rattle.guest_syntax.specs.reader.{Scanner.{first, tokens_from}, TokenViews.token_view}
+use Rattle.guest_syntax.specs.declared.token.Token as code
 
 -- the first token of the bytes, its end and the bytes after it, or none at the end
 abbrev pub Scans : Result (Option code.Token × Cursor) SyntaxError → Cursor → Type 0

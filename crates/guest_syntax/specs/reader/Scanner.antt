@@ -1,14 +1,12 @@
 -- Tokens one after the other, from the front.
 use Rattle.std.specs.Prelude.{ℕ, zero, suc, ◌+◌, ◌^◌, min, List, [], ◌∷◌, length, take, drop, Bool, true, false, Option, Some, None, option_map, find, nat_eq, slice_index, fold, ◌*◌, ◌-◌}
-use Rattle.std.specs.Option.{option_and_then, option_map_or}
+use Rattle.std.specs.{List.{prefix_len, starts_with}, Option.{option_and_then, option_map_or}}
 use Rattle.std.specs.Str.{bytes_eq}
-use Rattle.std.specs.List.{prefix_len, starts_with}
-use Rattle.guest_syntax.specs.declared.place.Pos.{Pos}
-use Rattle.guest_syntax.specs.declared.token.Symbol.{Symbol}
-use Rattle.guest_syntax.specs.declared.token.TheConstants.{KEYWORDS, SYMBOLS}
 use Rattle.guest_syntax.specs.Place.{past, after}
-use Rattle.guest_syntax.specs.reader.BlankBytes.{Step, Passed, Stops, NotAscii, gap_step}
 use Rattle.guest_syntax.specs.Tokens.{TokenKind, name, keyword, number, symbol, bad, Token, keyword_text, symbol_text, is_digit, is_letter, is_name_byte}
+use Rattle.guest_syntax.specs.declared.{place.Pos.Pos, token.Symbol.Symbol}
+use Rattle.guest_syntax.specs.declared.token.TheConstants.{KEYWORDS, SYMBOLS}
+use Rattle.guest_syntax.specs.reader.BlankBytes.{Step, Passed, Stops, NotAscii, gap_step}
 
 infixl 10 ◌>>=◌
 abbrev pub ◌>>=◌ : {A B : Type 0} → Option A → (A → Option B) → Option B

@@ -1,12 +1,10 @@
 -- Reading single tokens from the front of a list of tokens.
 use Rattle.std.specs.Prelude.{ℕ, List, [], ◌∷◌, Bool, true, false, nat_le, nat_lt, Option, Some, None, if◌then◌else◌}
-use Rattle.guest_syntax.specs.declared.limits.TheConstants.{REPEATS}
-use Rattle.guest_syntax.specs.declared.token.Symbol.{Symbol}
-use Rattle.guest_syntax.specs.contracts.token.SymbolPartialEq.TheImpl as symbol-eq
 use Rattle.guest_syntax.specs.Tokens.{TokenKind, name, keyword, number, symbol, bad, Token}
+use Rattle.guest_syntax.specs.{Tree.Name, declared.limits.TheConstants.REPEATS}
+use Rattle.guest_syntax.specs.{declared.token.Symbol.Symbol, reader.Reads.Read}
 use Rattle.guest_syntax.specs.reader.Scanner.{◌>>=◌}
-use Rattle.guest_syntax.specs.reader.Reads.{Read}
-use Rattle.guest_syntax.specs.Tree.{Name}
+use Rattle.guest_syntax.specs.contracts.token.SymbolPartialEq.TheImpl as symbol-eq
 
 abbrev pub is_bad : TokenKind → Bool
 is_bad (name s) = false

@@ -1,17 +1,14 @@
 -- Reading statements and blocks from the front of a list of tokens.
 use Rattle.std.specs.Prelude.{ℕ, zero, suc, List, Bool, true, false, Option, Some, None}
-use Rattle.guest_syntax.specs.declared.place.Pos.{Pos}
-use Rattle.guest_syntax.specs.declared.token.Keyword.{Keyword}
+use Rattle.guest_syntax.specs.Tokens.{TokenKind, keyword, symbol, Token}
+use Rattle.guest_syntax.specs.Tree.{Name, Expr, Stmt, Block, Placed, block_of}
+use Rattle.guest_syntax.specs.declared.{place.Pos.Pos, token.Keyword.Keyword}
+use Rattle.guest_syntax.specs.reader.Expressions.{operand_from, expr_from}
+use Rattle.guest_syntax.specs.reader.{Items.{Turn, all_from}, Reads.Read, Scanner.◌>>=◌}
+use Rattle.guest_syntax.specs.reader.SingleTokens.{token_at, symbol_from, name_from, times_from}
 use Rattle.guest_syntax.specs.declared.token.Keyword.TheVariants as keywords
 use Rattle.guest_syntax.specs.declared.token.Symbol.TheVariants as symbols
-use Rattle.guest_syntax.specs.Tokens.{TokenKind, keyword, symbol, Token}
-use Rattle.guest_syntax.specs.reader.Scanner.{◌>>=◌}
 use Rattle.guest_syntax.specs.Tree as tree
-use Rattle.guest_syntax.specs.Tree.{Name, Expr, Stmt, Block, Placed, block_of}
-use Rattle.guest_syntax.specs.reader.Reads.{Read}
-use Rattle.guest_syntax.specs.reader.SingleTokens.{token_at, symbol_from, name_from, times_from}
-use Rattle.guest_syntax.specs.reader.Expressions.{operand_from, expr_from}
-use Rattle.guest_syntax.specs.reader.Items.{Turn, all_from}
 
 -- a name and a `;`
 unfoldable pub one_name_from : List Token → Read Name

@@ -1,7 +1,6 @@
 -- What the values of the code stand for.
-use Rattle.guest_syntax.specs.declared.token.TokenKind.{TokenKind}
+use Rattle.guest_syntax.specs.declared.token.{Token.Token, TokenKind.TokenKind}
 use Rattle.guest_syntax.specs.declared.token.TokenKind.TheVariants as kinds
-use Rattle.guest_syntax.specs.declared.token.Token.{Token}
 use Rattle.guest_syntax.specs.Tokens as tokens
 
 abbrev pub kind_view : TokenKind → tokens.TokenKind

@@ -1,18 +1,15 @@
 -- Reading declarations, threads and a whole text from a list of tokens.
 use Rattle.std.specs.Prelude.{suc, pos, List, Option, Some, None}
-use Rattle.guest_syntax.specs.declared.limits.TheConstants.{DEPTH, COUNT}
+use Rattle.guest_syntax.specs.Tokens.{TokenKind, keyword, symbol, Token}
+use Rattle.guest_syntax.specs.Tree.{Name, Declaration, Thread, Tree}
+use Rattle.guest_syntax.specs.declared.{limits.TheConstants.{DEPTH, COUNT}, tree.Object.Object}
+use Rattle.guest_syntax.specs.reader.{Expressions.literal_from, Items.{Turn, all_from}, Reads.Read}
+use Rattle.guest_syntax.specs.reader.Scanner.{◌>>=◌}
+use Rattle.guest_syntax.specs.reader.SingleTokens.{next_at, token_at, symbol_from, name_from, number_from}
+use Rattle.guest_syntax.specs.reader.Statements.{one_name_from, block_from}
 use Rattle.guest_syntax.specs.declared.token.Keyword.TheVariants as keywords
 use Rattle.guest_syntax.specs.declared.token.Symbol.TheVariants as symbols
-use Rattle.guest_syntax.specs.declared.tree.Object.{Object}
 use Rattle.guest_syntax.specs.declared.tree.Object.TheVariants as objects
-use Rattle.guest_syntax.specs.Tokens.{TokenKind, keyword, symbol, Token}
-use Rattle.guest_syntax.specs.reader.Scanner.{◌>>=◌}
-use Rattle.guest_syntax.specs.Tree.{Name, Declaration, Thread, Tree}
-use Rattle.guest_syntax.specs.reader.Reads.{Read}
-use Rattle.guest_syntax.specs.reader.SingleTokens.{next_at, token_at, symbol_from, name_from, number_from}
-use Rattle.guest_syntax.specs.reader.Expressions.{literal_from}
-use Rattle.guest_syntax.specs.reader.Items.{Turn, all_from}
-use Rattle.guest_syntax.specs.reader.Statements.{one_name_from, block_from}
 
 abbrev pub variable_by : Name → TokenKind → List Token → Read Declaration
 variable_by x (symbol symbols.End) ts = Some

@@ -3,11 +3,9 @@ use Rattle.std.specs.Prelude.{◌≡◌, ℕ, ◌<◌, true, false, [], ◌∷�
 use Rattle.guest_code.specs.Program.{Program}
 use Rattle.semantics.specs.Machine.{Snapshot, next_of, is_enabled}
 use Rattle.semantics_schedules.specs.Execution.{ExecutionView, IsExecutionOf, stepped}
-use Rattle.replay.specs.declared.run.Line.{Line}
-use Rattle.replay.specs.declared.error.ReplayError.{ReplayError}
+use Rattle.replay.specs.{Run.line_at, Trace.IsValidLine, declared.error.ReplayError.ReplayError}
 use Rattle.replay.specs.declared.error.ReplayError.TheVariants.{NoSuchThread, NotEnabled, OutOfMemory}
-use Rattle.replay.specs.Run.{line_at}
-use Rattle.replay.specs.Trace.{IsValidLine}
+use Rattle.replay.specs.declared.run.Line.{Line}
 
 -- a step of thread t, which was enabled, led from the old execution to the new one, and this line
 -- tells it

@@ -1,32 +1,22 @@
 -- What a round comes to.
 use Rattle.std.specs.Prelude.{◌≡◌, ◌<◌, ◌+◌, ◌-◌, ℕ, [], ◌∷◌, ◌++◌, Bool, false, true, not, nat_lt}
 use Rattle.std.specs.Prelude.{Option, Some, None}
-use Rattle.std.specs.declared.alloc.Global.{Global}
-use Rattle.std.specs.declared.vec.Vec.{Vec}
+use Rattle.std.specs.declared.{alloc.Global.Global, vec.Vec.Vec}
 use Rattle.guest_code.specs.Program.{Program}
-use Rattle.walk_items.specs.declared.mode.Mode.{Mode}
+use Rattle.walk_items.specs.{Items.{ItemView, whole}, Walks.listed_if, declared.mode.Mode.Mode}
 use Rattle.walk_items.specs.declared.mode.Mode.TheVariants.{Bounded, Reduced}
 use Rattle.semantics_schedules.specs.Schedules.{preemptions}
 use Rattle.walk_summary.specs.Summaries.{SummaryView, end_kind}
-use Rattle.walk_items.specs.Items.{ItemView, whole}
-use Rattle.walk_items.specs.Walks.{listed_if}
-use Rattle.book.specs.Books.{BookView}
-use Rattle.book.specs.Progress.{mode_bound}
-use Rattle.runner_report.specs.declared.level.Level.{Level}
-use Rattle.runner_report.specs.declared.options.Options.{Options}
-use Rattle.runner_report.specs.declared.options.Search.{Search}
-use Rattle.runner_report.specs.declared.options.Search.TheVariants.{UpTo, Unbounded}
-use Rattle.runner_report.specs.declared.report.Cause.{Cause}
-use Rattle.runner_report.specs.declared.report.Report.{Report}
-use Rattle.runner_report.specs.declared.report.Verdict.{Verdict}
-use Rattle.runner_report.specs.declared.report.Verdict.TheVariants.{Clean, Bad, Incomplete}
+use Rattle.book.specs.{Books.BookView, Progress.mode_bound}
 use Rattle.runner_report.specs.Reports.{NoBadBelow, SomeExceeds, IsSummaryOf, IsCause, IsFinished}
-use Rattle.runner.specs.declared.course.Course.{Course}
-use Rattle.runner.specs.declared.judge.Ending.{Ending}
-use Rattle.runner.specs.declared.judge.Ending.TheVariants.{Whole, Cut}
-use Rattle.runner.specs.declared.judge.Next.{Next}
-use Rattle.runner.specs.declared.judge.Next.TheVariants.{Again, Raise, End}
+use Rattle.runner_report.specs.declared.{level.Level.Level, options.Options.Options}
+use Rattle.runner_report.specs.declared.options.Search.{Search, TheVariants.{UpTo, Unbounded}}
+use Rattle.runner_report.specs.declared.report.{Cause.Cause, Report.Report, Verdict.Verdict}
+use Rattle.runner_report.specs.declared.report.Verdict.TheVariants.{Clean, Bad, Incomplete}
 use Rattle.runner.specs.Levels.{IsModeOf, GoesOn, HasPassed, AreBelow}
+use Rattle.runner.specs.declared.course.Course.{Course}
+use Rattle.runner.specs.declared.judge.{Ending.Ending, Ending.TheVariants.{Whole, Cut}, Next.Next}
+use Rattle.runner.specs.declared.judge.Next.TheVariants.{Again, Raise, End}
 use Rattle.runner_workers.specs.Teams.{IsOf}
 
 -- the bounds below this one were finished without a bad schedule, and some schedule exceeds each

@@ -1,7 +1,6 @@
 -- How a search ends.
 use Rattle.std.specs.Prelude.{◌≡◌, ◌<◌, ◌⊎◌, List, [], length, All, Result, Ok, Err}
-use Rattle.walk_items.specs.declared.mode.Mode.{Mode}
-use Rattle.walk_items.specs.Items.{ItemView, schedule_count}
+use Rattle.walk_items.specs.{Items.{ItemView, schedule_count}, declared.mode.Mode.Mode}
 use Rattle.book.specs.Books.{BookView}
 use Rattle.runner_report.specs.declared.error.ExploreError.{ExploreError}
 

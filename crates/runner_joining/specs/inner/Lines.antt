@@ -1,11 +1,9 @@
 -- The parts of each prefix.
 use Rattle.std.specs.Prelude.{◌≡◌, ℕ, List, [], map, filter, bytes_eq}
 use Rattle.std.proofs.Common.{Vec, Global}
-use denote.Ref.{Bor}
 use Rattle.std.specs.BTreeMap.{BTreeMap, get_by}
-use Rattle.std.specs.Cmp.Lexicographic.{slice_cmp}
-use Rattle.std.specs.Option.{option_map_or}
-use Rattle.std.specs.Ordering.{nat_cmp}
+use Rattle.std.specs.{Cmp.Lexicographic.slice_cmp, Option.option_map_or, Ordering.nat_cmp}
+use denote.Ref.{Bor}
 use Rattle.runner_parts.specs.declared.part.Part.{Part}
 
 -- the parts under a prefix

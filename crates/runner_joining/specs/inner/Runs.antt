@@ -1,7 +1,6 @@
 -- Runs that end badly within a bound.
 use Rattle.std.specs.Prelude.{◌&&◌, ℕ, Bool, true, false, nat_le, Option, Some, None}
-use Rattle.semantics.specs.declared.view.Kind.{Kind}
-use Rattle.semantics.specs.View.{is_bad}
+use Rattle.semantics.specs.{View.is_bad, declared.view.Kind.Kind}
 use Rattle.replay.specs.Run.{Run}
 
 -- a run ends in a failure or a deadlock, and is within the bound, if there is one

@@ -1,9 +1,8 @@
 -- What stands in the JSON of a part at each key.
 use Rattle.std.specs.Prelude.{◌≡◌, Some, option_map, codes}
-use Rattle.runner_report.specs.declared.level.Level.{Level}
 use Rattle.runner_report.specs.ReportText.{cause_data, bound_data, count_data, ends_data, first_bad_data}
-use Rattle.serde_json.specs.Data.{Data, boolean}
-use Rattle.serde_json.specs.Find.{get}
+use Rattle.runner_report.specs.declared.level.Level.{Level}
+use Rattle.serde_json.specs.{Data.{Data, boolean}, Find.get}
 
 pub record HasLevel (l : Level) (d : Data) : Type 0 where
   pub beyond : get (codes "beyond") d ≡ Some (boolean l.summary.beyond)

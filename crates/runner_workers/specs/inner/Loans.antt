@@ -2,9 +2,8 @@
 use Rattle.std.specs.Prelude.{◌≡◌, ◌≤◌, ℕ, Bool, true, Option, None, length}
 use Rattle.guest_code.specs.Program.{Program}
 use Rattle.walk_summary.specs.Summaries.{SummaryView}
+use Rattle.book.specs.{ItemLists.{ListView, all_of}, Lending.IsLoanOf}
 use Rattle.book.specs.declared.limits.TheConstants.{ROUND}
-use Rattle.book.specs.ItemLists.{ListView, all_of}
-use Rattle.book.specs.Lending.{IsLoanOf}
 use Rattle.runner_report.specs.Reports.{IsReached}
 
 -- a worker was lent these items of the program: a round of its own

@@ -3,16 +3,12 @@ use Rattle.std.specs.Prelude.{◌≡◌, ◌≤◌, ◌<◌, ◌+◌, ◌-◌, �
 use Rattle.guest_code.specs.Program.{Program}
 use Rattle.board.specs.Board.{BoardId}
 use Rattle.semantics_schedules.specs.Order.{precedes}
-use Rattle.walk_items.specs.Items.{ItemView, AreOf}
-use Rattle.walk_items.specs.declared.mode.Mode.{Mode}
-use Rattle.book.specs.declared.limits.TheConstants.{ROUND}
-use Rattle.book.specs.Books.{BookView, HaveFound}
+use Rattle.walk_items.specs.{Items.{ItemView, AreOf}, declared.mode.Mode.Mode}
+use Rattle.book.specs.{Books.{BookView, HaveFound}, declared.limits.TheConstants.ROUND}
 use Rattle.runner_report.specs.Reports.{IsReached}
-use Rattle.runner_workers.specs.declared.limits.TheConstants.{WORKERS}
-use Rattle.runner_workers.specs.declared.worker.Worker.{Worker}
-use Rattle.runner_workers.specs.declared.round.Round.{Round}
+use Rattle.runner_workers.specs.declared.{limits.TheConstants.WORKERS, round.Round.Round}
 use Rattle.runner_workers.specs.declared.seated_worker.SeatedWorker.{SeatedWorker}
-use Rattle.runner_workers.specs.declared.stretch.Stretch.{Stretch}
+use Rattle.runner_workers.specs.declared.{stretch.Stretch.Stretch, worker.Worker.Worker}
 
 -- the round's mode is this one, its items are of this program, and its quota is not 0
 pub record IsRoundOf (p : Program) (m : Mode) (r : Round) : Type 0 where

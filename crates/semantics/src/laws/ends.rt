@@ -1,10 +1,9 @@
 //! What the kind of a complete schedule says of the threads in its last state.
 
 ghost use Rattle.std.specs.Prelude.{◌≡◌, ◌↔◌, List};
+ghost use Rattle.semantics.specs.{Ends.final_kind, FinalKinds.{SomeStopped, SomeUnended, AllEnded}};
 ghost use Rattle.semantics.specs.declared.state.Thread.{Thread};
 ghost use Rattle.semantics.specs.declared.view.Kind.TheVariants.{Done, Failed, Stuck};
-ghost use Rattle.semantics.specs.Ends.{final_kind};
-ghost use Rattle.semantics.specs.FinalKinds.{SomeStopped, SomeUnended, AllEnded};
 
 /// By the threads of its last state, a complete schedule has failed exactly where some thread
 /// stopped; it is done exactly where all threads ended, so that none stopped; it is stuck exactly

@@ -1,25 +1,21 @@
 //! What steps do with objects and threads.
 
 ghost use Rattle.std.specs.Prelude.{◌≡◌, ◌≢◌, ◌+◌, ◌-◌, ◌<◌, ◌↔◌, ℕ, pos, true, List, [], ◌∷◌, ◌++◌, length, Some, None};
-ghost use Rattle.guest_code.specs.declared.limits.TheConstants.{COUNT};
+ghost use Rattle.guest_code.specs.{Program.Program, declared.limits.TheConstants.COUNT};
 ghost use Rattle.guest_code.specs.declared.program.Value.{Value};
-ghost use Rattle.guest_code.specs.Program.{Program};
 ghost use Rattle.guest_syntax.specs.declared.tree.Op.TheVariants.{Add as Plus};
+ghost use Rattle.semantics.specs.Accesses.{Writes, Object.{variable, mutex, condition, semaphore}};
+ghost use Rattle.semantics.specs.Effects.{IsAboutTo, RunsOn, PutsInto, StopsNotHeld, StopsFull, IsLeft, operand_of};
+ghost use Rattle.semantics.specs.Machine.{Snapshot, step, is_enabled, next_of, threads_to_wake, value_of, owner_of, queue_of, count_of, thread_at, of_both};
+ghost use Rattle.semantics.specs.{Waiters.{In, HasWaiters}, Work.work};
 ghost use Rattle.semantics.specs.declared.state.Action.{Action};
 ghost use Rattle.semantics.specs.declared.state.Action.TheVariants.{OnVariable, OnMutex, Wait as Waits, OnCondition, OnSemaphore};
 ghost use Rattle.semantics.specs.declared.state.ConditionAction.{ConditionAction};
 ghost use Rattle.semantics.specs.declared.state.ConditionAction.TheVariants.{Signal, Broadcast};
-ghost use Rattle.semantics.specs.declared.state.MutexAction.{MutexAction};
-ghost use Rattle.semantics.specs.declared.state.MutexAction.TheVariants.{Unlock};
+ghost use Rattle.semantics.specs.declared.state.MutexAction.{MutexAction, TheVariants.Unlock};
 ghost use Rattle.semantics.specs.declared.state.SemaphoreAction.TheVariants.{Acquire, Release};
 ghost use Rattle.semantics.specs.declared.state.Status.TheVariants.{Waiting, Woken};
 ghost use Rattle.semantics.specs.declared.state.VariableAction.TheVariants.{Load, Store, Add, Cas};
-ghost use Rattle.semantics.specs.Accesses.{Writes};
-ghost use Rattle.semantics.specs.Accesses.Object.{variable, mutex, condition, semaphore};
-ghost use Rattle.semantics.specs.Effects.{IsAboutTo, RunsOn, PutsInto, StopsNotHeld, StopsFull, IsLeft, operand_of};
-ghost use Rattle.semantics.specs.Machine.{Snapshot, step, is_enabled, next_of, threads_to_wake, value_of, owner_of, queue_of, count_of, thread_at, of_both};
-ghost use Rattle.semantics.specs.Waiters.{In, HasWaiters};
-ghost use Rattle.semantics.specs.Work.{work};
 
 // What a step leaves.
 

@@ -1,8 +1,7 @@
 //! Steps of a state, and how they are taken back.
 
 ghost use Rattle.std.specs.Prelude.{◌≡◌, IsTrue};
-ghost use Rattle.semantics.specs.Machine.{step, performed, is_enabled};
-ghost use Rattle.semantics.specs.Reachable.{IsOf, IsReady};
+ghost use Rattle.semantics.specs.{Machine.{step, performed, is_enabled}, Reachable.{IsOf, IsReady}};
 ghost use Rattle.semantics.specs.Undoing.{undone, IsRecordOf};
 ghost use Rattle.semantics.specs.declared.state.Action.TheVariants.{OnVariable, OnMutex, Wait as Waits, OnCondition, OnSemaphore};
 

@@ -1,7 +1,6 @@
 -- A thread apart from its locals, and what it does with those of them that are kept.
 use Rattle.std.specs.Prelude.{◌≡◌, ℕ, take}
-use Rattle.semantics.specs.declared.state.Thread.{Thread}
-use Rattle.semantics.specs.declared.local.Landing.{Landing}
+use Rattle.semantics.specs.declared.{local.Landing.Landing, state.Thread.Thread}
 
 -- a thread of which only the first `width` locals are kept
 abbrev pub narrow : ℕ → Thread → Thread

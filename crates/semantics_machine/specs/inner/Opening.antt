@@ -2,11 +2,9 @@
 use Rattle.std.specs.Prelude.{◌≡◌, ℕ, ◌+◌, ◌*◌, ◌<◌, ◌≤◌, length, take, drop, All}
 use Rattle.guest_code.specs.Program.{Program, LocalsBelow}
 use Rattle.semantics.specs.Machine.{Snapshot, thread_at}
-use Rattle.semantics_machine.specs.declared.control.Control.{Control}
-use Rattle.semantics_machine.specs.declared.machine.Machine.{Machine}
 use Rattle.semantics_machine.specs.Refinement.{HasObjects, HasThreadAt, locals_at}
-use Rattle.semantics_machine.specs.Touches.{AreTouches}
-use Rattle.semantics_machine.specs.inner.Parts.{IsIdle}
+use Rattle.semantics_machine.specs.{Touches.AreTouches, declared.control.Control.Control}
+use Rattle.semantics_machine.specs.{declared.machine.Machine.Machine, inner.Parts.IsIdle}
 
 -- the first k threads are those of the state, and the rest are idle
 pub record IsOpenedTo (p : Program) (s : Snapshot) (k : ℕ) (c : Control) : Type 0 where

@@ -1,19 +1,15 @@
 -- Parts of a step: a thread leaves its place, objects change, and it is put where it is then.
 use Rattle.std.specs.Prelude.{◌≡◌, ◌≢◌, ℕ, Bool, true, false, not, List, slice_get, slice_index_or, Option}
-use Rattle.semantics.specs.declared.mask.Mask.{Mask}
-use Rattle.guest_code.specs.Program.{Program}
-use Rattle.guest_code.specs.declared.program.Instruction.{Instruction}
-use Rattle.semantics.specs.declared.state.Thread.{Thread}
-use Rattle.semantics.specs.declared.state.Status.{Status}
-use Rattle.semantics.specs.declared.state.Action.{Action}
-use Rattle.semantics.specs.declared.state.MutexAction.{MutexAction}
-use Rattle.semantics.specs.declared.state.MutexAction.TheVariants.{Lock as Locks, Unlock as Unlocks, Retake as Retakes}
+use Rattle.semantics.specs.Ends.{is_stopped, is_ended}
 use Rattle.semantics.specs.Machine.{Snapshot, thread_at, can_do, action_at}
 use Rattle.semantics.specs.Mask.{has, no_threads}
-use Rattle.semantics.specs.Ends.{is_stopped, is_ended}
-use Rattle.semantics_machine.specs.declared.control.Control.{Control}
-use Rattle.semantics.specs.declared.local.Landing.{Landing}
+use Rattle.semantics.specs.declared.{local.Landing.Landing, mask.Mask.Mask, state.Action.Action}
+use Rattle.semantics.specs.declared.state.MutexAction.{MutexAction}
+use Rattle.semantics.specs.declared.state.MutexAction.TheVariants.{Lock as Locks, Unlock as Unlocks, Retake as Retakes}
+use Rattle.semantics.specs.declared.state.{Status.Status, Thread.Thread}
+use Rattle.guest_code.specs.{Program.Program, declared.program.Instruction.Instruction}
 use Rattle.semantics_machine.specs.Refinement.{is_woken, takes_mutex, takes_semaphore, at_mutex, at_semaphore, held, HasObjects, HasThreadAt}
+use Rattle.semantics_machine.specs.declared.control.Control.{Control}
 
 -- thread t is at no mutex and no semaphore
 pub record IsNowhere (all_mutexes all_semaphores : List Mask) (t : ℕ) : Type 0 where

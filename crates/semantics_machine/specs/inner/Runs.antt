@@ -1,17 +1,13 @@
 -- Runs: steps of one thread, with none of another between them.
 use Rattle.std.specs.Prelude.{◌≡◌, ◌≢◌, ℕ, ◌+◌, ◌<◌, ◌≤◌, ℤ, Bool, true, false, List, length, take, replicate, All}
 use Rattle.guest_code.specs.Program.{Program, code_of, LocalsBelow}
-use Rattle.semantics.specs.declared.mask.Mask.{Mask}
-use Rattle.semantics.specs.declared.state.Status.TheVariants.{Running}
 use Rattle.semantics.specs.Machine.{Snapshot, thread_at, is_enabled}
-use Rattle.semantics.specs.Mask.{has, HasEnabled}
-use Rattle.semantics.specs.Reachable.{IsOf}
+use Rattle.semantics.specs.{Mask.{has, HasEnabled}, Reachable.IsOf, declared.mask.Mask.Mask}
+use Rattle.semantics.specs.declared.state.Status.TheVariants.{Running}
 use Rattle.semantics_schedules.specs.Schedules.{state_after}
-use Rattle.semantics_machine.specs.declared.control.Control.{Control}
-use Rattle.semantics_machine.specs.declared.machine.Run.{Run}
+use Rattle.semantics_machine.specs.{Refinement.IsControl, declared.control.Control.Control}
 use Rattle.semantics_machine.specs.declared.control.steps.MovingThread.{MovingThread}
-use Rattle.semantics_machine.specs.Refinement.{IsControl}
-use Rattle.semantics_machine.specs.inner.Steps.{HasShared, IsPassed}
+use Rattle.semantics_machine.specs.{declared.machine.Run.Run, inner.Steps.{HasShared, IsPassed}}
 
 -- the state after n steps of thread t
 abbrev pub run_to : Program → Snapshot → ℕ → ℕ → Snapshot

@@ -1,18 +1,14 @@
 -- A step, from the thread that may take it to what it made of the state.
 use Rattle.std.specs.Prelude.{◌≡◌, ◌≢◌, ℕ, ◌+◌, ◌<◌, ℤ, true, false, List, length, take, slice_index_or, slice_set, All, Option, Some}
-use Rattle.semantics.specs.Mask.{has}
+use Rattle.semantics.specs.Machine.{Snapshot, thread_at, queue_of, next_of, is_enabled, can_do, action_of, step, resumed, run_from, with_status, wake, missing_thread}
+use Rattle.semantics.specs.{Mask.has, Reachable.IsOf, Waiters.{In, Once}}
+use Rattle.semantics.specs.declared.state.Status.{Status, TheVariants.{Running, Waiting}}
+use Rattle.semantics.specs.declared.state.Thread.{Thread}
 use Rattle.guest_code.specs.Program.{Program, code_of, IsValid, LocalsBelow}
 use Rattle.guest_code.specs.declared.program.Instruction.{Instruction}
-use Rattle.semantics.specs.declared.state.Thread.{Thread}
-use Rattle.semantics.specs.declared.state.Status.{Status}
-use Rattle.semantics.specs.declared.state.Status.TheVariants.{Running, Waiting}
-use Rattle.semantics.specs.Machine.{Snapshot, thread_at, queue_of, next_of, is_enabled, can_do, action_of, step, resumed, run_from, with_status, wake, missing_thread}
-use Rattle.semantics.specs.Reachable.{IsOf}
-use Rattle.semantics.specs.Waiters.{In, Once}
-use Rattle.semantics_machine.specs.declared.control.Control.{Control}
 use Rattle.semantics_machine.specs.Refinement.{IsControl, AreQueues, HasObjects}
+use Rattle.semantics_machine.specs.{declared.control.Control.Control, inner.LocalRuns.narrow}
 use Rattle.semantics_machine.specs.inner.Parts.{IsControlBut, IsLeaving}
-use Rattle.semantics_machine.specs.inner.LocalRuns.{narrow}
 
 -- the cells are those of these variables, and of these queues after them
 pub record AreShared (lengths : List ℕ) (cells vars : List ℤ) (queues : List (List ℕ))

@@ -1,23 +1,21 @@
 //! Steps and runs of a thread, on the control, the values of the variables, and its own locals.
 
 ghost use Rattle.std.specs.Prelude.{◌≡◌, ◌<◌, ◌≤◌, ◌^◌, ◌*◌, ℕ, ℤ, ◌+◌, List, take, true, false, length, slice_get, slice_index_or, slice_set, replicate, drop, pos, Some, All, IsTrue};
-ghost use Rattle.guest_code.specs.declared.limits.TheConstants.{INSTRUCTIONS};
-ghost use Rattle.semantics.specs.Mask.{HasEnabled};
 ghost use Rattle.guest_code.specs.Program.{Program, IsValid, IsValidCode, IsWellFormed, LocalsBelow, code_of};
+ghost use Rattle.guest_code.specs.declared.limits.TheConstants.{INSTRUCTIONS};
 ghost use Rattle.guest_code.specs.declared.program.Instruction.{Instruction};
 ghost use Rattle.guest_code.specs.declared.program.Instruction.TheVariants.{Unlock, Wait, Signal, Broadcast, Release};
-ghost use Rattle.semantics.specs.declared.state.VariableAction.{VariableAction};
-ghost use Rattle.semantics.specs.declared.state.Status.TheVariants.{Running};
-ghost use Rattle.semantics.specs.declared.state.Action.TheVariants.{OnVariable};
 ghost use Rattle.semantics.specs.Machine.{Snapshot, thread_at, action_of, can_do, is_enabled, next_of, retake_of};
-ghost use Rattle.semantics.specs.Reachable.{IsOf};
-ghost use Rattle.semantics_machine.specs.Refinement.{IsControl, IsState, HasObjects};
-ghost use Rattle.semantics_schedules.specs.Schedules.{state_after};
-ghost use Rattle.semantics_machine.specs.declared.control.Control.{Control};
+ghost use Rattle.semantics.specs.{Mask.HasEnabled, Reachable.IsOf};
 ghost use Rattle.semantics.specs.Turns.{IsAccessBelow, own_thread, turn_of};
-ghost use Rattle.semantics_machine.specs.inner.Parts.{IsFreeIn};
-ghost use Rattle.semantics_machine.specs.inner.Steps.{HasShared, IsPoised, IsPerformed, IsReadyIn, Faces, place_after, going_on};
+ghost use Rattle.semantics.specs.declared.state.Action.TheVariants.{OnVariable};
+ghost use Rattle.semantics.specs.declared.state.Status.TheVariants.{Running};
+ghost use Rattle.semantics.specs.declared.state.VariableAction.{VariableAction};
+ghost use Rattle.semantics_machine.specs.Refinement.{IsControl, IsState, HasObjects};
+ghost use Rattle.semantics_machine.specs.{declared.control.Control.Control, inner.Parts.IsFreeIn};
 ghost use Rattle.semantics_machine.specs.inner.Runs.{IsGoing, IsRunTo, RunsAmong};
+ghost use Rattle.semantics_machine.specs.inner.Steps.{HasShared, IsPoised, IsPerformed, IsReadyIn, Faces, place_after, going_on};
+ghost use Rattle.semantics_schedules.specs.Schedules.{state_after};
 
 use crate::control::{Control, FREE};
 use crate::machine::{Reach, Run, Shape};

@@ -3,24 +3,20 @@
 //! rule is our own.
 
 ghost use Rattle.std.specs.Prelude.{◌≡◌, ◌≢◌, ◌↔◌, ◌⊎◌, ℕ, Bool, true, false, not, List, [], ◌∷◌, map, filter, flat_map, Contains, Some, None};
-ghost use Rattle.guest_code.specs.declared.program.Expression.{Expression};
+ghost use Rattle.guest_code.specs.{Program.Program, declared.program.Expression.Expression};
 ghost use Rattle.guest_code.specs.declared.program.Instruction.TheVariants.{Load, Store, Add, Cas, Lock, Unlock, Wait, Signal, Broadcast, Acquire, Release, Set, Assert, SkipIfZero, Skip};
 ghost use Rattle.guest_code.specs.declared.program.Value.{Value};
-ghost use Rattle.guest_code.specs.Program.{Program};
-ghost use Rattle.semantics.specs.declared.state.Action.{Action};
-ghost use Rattle.semantics.specs.declared.state.Action.TheVariants.{OnVariable};
+ghost use Rattle.semantics.specs.Accesses.{Object};
+ghost use Rattle.semantics.specs.Accesses.Access.{reads_var, writes_var, writes_mutex, writes_condition, writes_semaphore};
+ghost use Rattle.semantics.specs.{Effects.IsAboutTo, Ends.{enabled, is_terminal}};
+ghost use Rattle.semantics.specs.{Machine.{Snapshot, step, is_enabled, next_of}, View.View};
+ghost use Rattle.semantics.specs.declared.state.Action.{Action, TheVariants.OnVariable};
 ghost use Rattle.semantics.specs.declared.state.Status.TheVariants.{Running, Woken};
 ghost use Rattle.semantics.specs.declared.state.VariableAction.TheVariants.{Load as Loads};
-ghost use Rattle.semantics.specs.Accesses.{Object};
 ghost use Rattle.semantics_schedules.specs.Dependence.{ConflictOn, accesses_at};
-ghost use Rattle.semantics.specs.Effects.{IsAboutTo};
-ghost use Rattle.semantics.specs.Machine.{Snapshot, step, is_enabled, next_of};
-ghost use Rattle.semantics_schedules.specs.Schedules.{before, complete_schedules};
-ghost use Rattle.semantics.specs.Ends.{enabled, is_terminal};
 ghost use Rattle.semantics_schedules.specs.Order.{is_complete, least, end_from, ends_badly};
+ghost use Rattle.semantics_schedules.specs.Schedules.{before, complete_schedules};
 ghost use Rattle.semantics_schedules.specs.Sleep.{independent, is_kept, next_sleep_set, reduced_schedules, none_asleep, IsMetEarlier, IsMetAsleep};
-ghost use Rattle.semantics.specs.Accesses.Access.{reads_var, writes_var, writes_mutex, writes_condition, writes_semaphore};
-ghost use Rattle.semantics.specs.View.{View};
 
 // Independent steps.
 

@@ -1,13 +1,11 @@
 //! The order of schedules, and the least of a list.
 
 ghost use Rattle.std.specs.Prelude.{◌≡◌, ◌<◌, ◌⊎◌, ℕ, Bool, true, false, List, [], ◌∷◌, ◌++◌, filter, slice_get, Contains, Some, None};
-ghost use Rattle.std.specs.Ordering.{nat_cmp, is_lt};
-ghost use Rattle.std.specs.Cmp.Lexicographic.{slice_cmp};
+ghost use Rattle.std.specs.{Cmp.Lexicographic.slice_cmp, Ordering.{nat_cmp, is_lt}};
 ghost use Rattle.guest_code.specs.Program.{Program};
 ghost use Rattle.semantics.specs.Machine.{Snapshot};
+ghost use Rattle.semantics_schedules.specs.{Order.{precedes, least, ends_badly}, Rising.IsRising};
 ghost use Rattle.semantics_schedules.specs.Schedules.{complete_schedules, begins_with};
-ghost use Rattle.semantics_schedules.specs.Order.{precedes, least, ends_badly};
-ghost use Rattle.semantics_schedules.specs.Rising.{IsRising};
 
 /// The order of schedules is strict and transitive, and of two different ones one comes first.
 pub fn order_is_total()

@@ -2,10 +2,8 @@
 
 ghost use Rattle.std.specs.Prelude.{◌≡◌, ℕ, List, true, Some};
 ghost use Rattle.guest_code.specs.Program.{Program, IsWellFormed};
-ghost use Rattle.semantics.specs.Effects.{IsOver};
-ghost use Rattle.semantics.specs.Machine.{Snapshot, start, owner_of, thread_at};
-ghost use Rattle.semantics.specs.Reachable.{IsOf};
-ghost use Rattle.semantics.specs.Waiters.{HasWaiters};
+ghost use Rattle.semantics.specs.{Effects.IsOver, Machine.{Snapshot, start, owner_of, thread_at}};
+ghost use Rattle.semantics.specs.{Reachable.IsOf, Waiters.HasWaiters};
 ghost use Rattle.semantics_schedules.specs.Schedules.{runs, state_after};
 
 /// Each schedule that runs in a well formed program leads to a state of the program.

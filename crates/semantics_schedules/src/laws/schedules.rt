@@ -3,13 +3,12 @@
 
 ghost use Rattle.std.specs.Prelude.{◌≡◌, ◌≢◌, ◌+◌, ◌<◌, ◌≤◌, ◌↔◌, ◌⊎◌, ℕ, true, false, List, [], ◌∷◌, ◌++◌, length, filter, flat_map, Contains, Some, None};
 ghost use Rattle.guest_code.specs.Program.{Program, IsWellFormed};
-ghost use Rattle.semantics_schedules.specs.declared.limits.TheConstants.{STEPS};
-ghost use Rattle.semantics.specs.Machine.{Snapshot, step, is_enabled, start};
-ghost use Rattle.semantics.specs.Work.{most_steps};
-ghost use Rattle.semantics_schedules.specs.Schedules.{runs, state_after, before, or_complete, complete_schedules, schedules_under, schedules_within, exceeds_bound, begins_with, preemptions, last_of};
-ghost use Rattle.semantics.specs.Ends.{enabled, is_terminal};
 ghost use Rattle.semantics_schedules.specs.Order.{is_complete};
 ghost use Rattle.semantics_schedules.specs.Rising.{IsRising, HasEachOnce, IsPrefixFree};
+ghost use Rattle.semantics_schedules.specs.Schedules.{runs, state_after, before, or_complete, complete_schedules, schedules_under, schedules_within, exceeds_bound, begins_with, preemptions, last_of};
+ghost use Rattle.semantics_schedules.specs.declared.limits.TheConstants.{STEPS};
+ghost use Rattle.semantics.specs.Ends.{enabled, is_terminal};
+ghost use Rattle.semantics.specs.{Machine.{Snapshot, step, is_enabled, start}, Work.most_steps};
 
 // Enabled threads.
 

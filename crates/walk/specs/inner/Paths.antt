@@ -1,17 +1,12 @@
 -- The path of a walk from the start of a program, with copies of states on the way.
-use Rattle.std.specs.Prelude.{◌≡◌, ℕ, ◌*◌, ◌≤◌, ◌<◌, ℤ, Bool, false, not, ◌&&◌, nat_eq, List}
-use Rattle.std.specs.Prelude.{[], length, take, drop, get_or, Option, Some, None}
+use Rattle.std.specs.Prelude.{◌≡◌, ℕ, ◌*◌, ◌≤◌, ◌<◌, ℤ, Bool, false, not, ◌&&◌, nat_eq, List, []}
+use Rattle.std.specs.Prelude.{length, take, drop, get_or, Option, Some, None}
 use Rattle.guest_code.specs.Program.{Program, IsWellFormed}
-use Rattle.semantics.specs.Machine.{Snapshot, start}
-use Rattle.semantics_machine.specs.declared.machine.Shape.{Shape}
-use Rattle.semantics_machine.specs.Refinement.{Shows, IsShown}
+use Rattle.semantics.specs.{Machine.{Snapshot, start}, Mask.{has, no_threads, HasEnabled}}
 use Rattle.semantics.specs.declared.mask.Mask.{Mask}
-use Rattle.semantics.specs.Mask.{has, no_threads, HasEnabled}
-use Rattle.semantics_schedules.specs.Schedules.{state_after}
-use Rattle.semantics_schedules.specs.Execution.{Reaches}
-use Rattle.walk.specs.declared.path.Node.{Node}
-use Rattle.walk.specs.declared.path.Frame.{Frame}
-use Rattle.walk.specs.declared.path.Path.{Path}
+use Rattle.semantics_machine.specs.{Refinement.{Shows, IsShown}, declared.machine.Shape.Shape}
+use Rattle.semantics_schedules.specs.{Execution.Reaches, Schedules.state_after}
+use Rattle.walk.specs.declared.path.{Frame.Frame, Node.Node, Path.Path}
 
 -- the thread of the last step, if there is one, could go on, and it is not this one
 abbrev pub preempts_last : Option ℕ → Mask → ℕ → Bool

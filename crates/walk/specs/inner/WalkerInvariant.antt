@@ -1,23 +1,16 @@
 -- What holds while a walk goes over the schedules of an item.
-use Rattle.std.specs.Prelude.{◌≡◌, ℕ, zero, suc, ◌+◌, ◌-◌, ◌<◌, ◌≤◌, Bool, true, false, not}
-use Rattle.std.specs.Prelude.{◌&&◌, nat_eq, nat_le, nat_lt, List, [], ◌∷◌, ◌++◌, length, take, replicate, Some}
+use Rattle.std.specs.Prelude.{◌≡◌, ℕ, zero, suc, ◌+◌, ◌-◌, ◌<◌, ◌≤◌, Bool, true, false, not, ◌&&◌, nat_eq, nat_le, nat_lt, List, [], ◌∷◌, ◌++◌, length, take, replicate, Some}
 use Rattle.semantics_machine.specs.declared.machine.Run.{Run}
 use Rattle.guest_code.specs.Program.{Program}
-use Rattle.semantics.specs.Machine.{is_enabled}
-use Rattle.semantics.specs.Mask.{has, HasEnabled, members_from, one_if}
+use Rattle.semantics.specs.{Machine.is_enabled, Mask.{has, HasEnabled, members_from, one_if}}
 use Rattle.semantics.specs.declared.mask.Mask.{Mask}
-use Rattle.walk_items.specs.declared.mode.Mode.{Mode}
+use Rattle.walk_items.specs.{Children.{child_of, children_of, cost_of, costs}, Items.ItemView}
+use Rattle.walk_items.specs.{Walks.{IsWalked, items_at, listed_if}, declared.mode.Mode.Mode}
 use Rattle.walk_items.specs.declared.mode.Mode.TheVariants.{Bounded, Reduced}
-use Rattle.walk.specs.declared.path.Node.{Node}
-use Rattle.walk.specs.declared.path.Frame.{Frame}
-use Rattle.walk.specs.declared.path.Path.{Path}
-use Rattle.walk.specs.declared.found.Found.{Found}
-use Rattle.walk_items.specs.Items.{ItemView}
+use Rattle.walk.specs.declared.{found.Found.Found, path.Frame.Frame, path.Node.Node, path.Path.Path}
+use Rattle.walk.specs.inner.Paths.{used_frames, is_preempting, frame_at, state_at, IsPath, ReachesNode}
 use Rattle.walk_prefixes.specs.PrefixLists.{last_of}
 use Rattle.walk_summary.specs.Summaries.{SummaryView, IsSummary, join}
-use Rattle.walk_items.specs.Walks.{IsWalked, items_at, listed_if}
-use Rattle.walk_items.specs.Children.{child_of, children_of, cost_of, costs}
-use Rattle.walk.specs.inner.Paths.{used_frames, is_preempting, frame_at, state_at, IsPath, ReachesNode}
 
 -- the item of a node, to which these steps lead
 abbrev pub item_of : Program → List ℕ → Node → ItemView

@@ -1,8 +1,7 @@
 use Rattle.std.proofs.Common.{rules, ◌≡◌, ap, arith, filter, not, length}
 use Rattle.std.proofs.lemmas.Fn.{filter_same}
 use Rattle.walk_items.specs.Items.{ItemView}
-use Rattle.walk_prefixes.specs.PrefixLists.{is_later}
-use Rattle.walk_prefixes.proofs.Later.{left_and_dropped}
+use Rattle.walk_prefixes.{specs.PrefixLists.is_later, proofs.Later.left_and_dropped}
 use Rattle.book.proofs.item_list.remove_later.Goals as goal
 
 pub returns-clause-items : goal.returns-clause-items

@@ -1,6 +1,5 @@
 use Rattle.std.proofs.Common.{◌+◌, ◌≤◌, arith, get_or, length}
-use Rattle.guest_code.specs.declared.program.Instruction.TheVariants.{Load}
-use Rattle.guest_code.specs.Program.{skip_of}
+use Rattle.guest_code.specs.{Program.skip_of, declared.program.Instruction.TheVariants.Load}
 use Rattle.check_lint.proofs.PathMarks.{passed_none, passed_step, passed_all, jump_fits}
 use Rattle.check_lint.proofs.paths.mark_paths.Goals as goal
 

@@ -1,17 +1,13 @@
 use Rattle.std.proofs.Common.{◌≡◌, ◌∙◌, ap, sym, refl, subst, inr, ℕ, List, [], ◌∷◌, ◌++◌, Bool}
 use Rattle.std.proofs.Common.{None, false, append-nil, if◌then◌else◌}
-use Rattle.std.proofs.lemmas.Result.{err_from_is_err_and}
-use Rattle.std.specs.Arc.{arc_value}
+use Rattle.std.{specs.Arc.arc_value, proofs.lemmas.Result.err_from_is_err_and}
 use Rattle.guest_code.specs.Program.{Program}
-use Rattle.replay.specs.Run.{ReplayErrorMeans}
-use Rattle.replay.specs.Trace.{Trace}
-use Rattle.runner_report.specs.ReportText.{report_text, named_schedule}
-use Rattle.runner_report.specs.Texts.{IsReportOfText}
-use Rattle.ctxbound_answers.specs.declared.answer.Printed.{Printed}
+use Rattle.replay.specs.{Run.ReplayErrorMeans, Trace.Trace}
+use Rattle.runner_report.specs.{ReportText.{report_text, named_schedule}, Texts.IsReportOfText}
 use Rattle.ctxbound_answers.specs.Answer.{IsExplorationOf, trace_of}
+use Rattle.ctxbound_answers.specs.declared.answer.Printed.{Printed}
+use Rattle.ctxbound_answers.proofs.answer.explore_text.Goals.{then-is_traced+in-Some+in_ok-traced+in_ok-extend_from_slice, then-is_traced+in_default, else-is_traced}
 use Rattle.ctxbound_answers.proofs.answer.explore_text.Goals as goal
-use Rattle.ctxbound_answers.proofs.answer.explore_text.Goals.{then-is_traced+in-Some+in_ok-traced+in_ok-extend_from_slice}
-use Rattle.ctxbound_answers.proofs.answer.explore_text.Goals.{then-is_traced+in_default, else-is_traced}
 
 pub returns-in_err-traced : goal.returns-in_err-traced
 returns-in_err-traced g c =

@@ -1,11 +1,9 @@
 use Rattle.std.proofs.Common.{◌≡◌, ◌∙◌, [], ◌<◌, ◌+◌, ◌-◌, sym, subst, refl, arith, take, drop, length}
 use Rattle.std.proofs.lemmas.List.{length-set}
-use Rattle.explain_cause.specs.Causes.{event_at, marked, marks_in, no_event}
-use Rattle.explain_cause.specs.Needs.{AreMarks}
+use Rattle.explain_cause.specs.{Causes.{event_at, marked, marks_in, no_event}, Needs.AreMarks}
 use Rattle.explain_cause.specs.inner.Wanting.{IsWanted}
 use Rattle.explain_cause.proofs.Back.{wanted_back, marks_back, used_here}
-use Rattle.explain_cause.proofs.Marks.{marks_are_the_cause}
-use Rattle.explain_cause.proofs.Places.{first_event, rest_marked}
+use Rattle.explain_cause.proofs.{Marks.marks_are_the_cause, Places.{first_event, rest_marked}}
 use Rattle.explain_cause.proofs.Valid.{reads_few, uses_few}
 use Rattle.explain_cause.proofs.causes.marks_of.Goals as goal
 

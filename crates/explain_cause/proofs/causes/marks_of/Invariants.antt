@@ -1,6 +1,5 @@
 use Rattle.std.proofs.Common.{◌≡◌, ◌≤◌, length, take, drop}
-use Rattle.explain_cause.specs.Causes.{marks_in}
-use Rattle.explain_cause.specs.inner.Wanting.{IsWanted}
+use Rattle.explain_cause.specs.{Causes.marks_in, inner.Wanting.IsWanted}
 use Rattle.explain_cause.proofs.Places.{rest_marked}
 use Rattle.explain_cause.proofs.causes.marks_of.Given as goal
 

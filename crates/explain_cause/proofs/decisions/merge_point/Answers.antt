@@ -1,11 +1,8 @@
-use Rattle.std.proofs.Common.{◌≡◌, ◌∙◌, ◌+◌, ◌<◌, ◌≤◌, ℕ, List, [], ◌∷◌, drop, length, get_or, sym, ap, arith, refl, add-one}
 use Rattle.std.specs.Prelude.{max, if◌then◌else◌}
-use Rattle.std.proofs.lemmas.Bool.{le-ltb, lt-ltb}
-use Rattle.std.proofs.lemmas.List.{get_or_default}
-use Rattle.std.proofs.Math.Seq.{drop-cons}
-use Rattle.guest_code.specs.declared.program.Instruction.{Instruction}
+use Rattle.std.proofs.Common.{◌≡◌, ◌∙◌, ◌+◌, ◌<◌, ◌≤◌, ℕ, List, [], ◌∷◌, drop, length, get_or, sym, ap, arith, refl, add-one}
+use Rattle.std.proofs.{Math.Seq.drop-cons, lemmas.Bool.{le-ltb, lt-ltb}, lemmas.List.get_or_default}
+use Rattle.guest_code.specs.{Program.skip_of, declared.program.Instruction.Instruction}
 use Rattle.guest_code.specs.declared.program.Instruction.TheVariants.{Skip}
-use Rattle.guest_code.specs.Program.{skip_of}
 use Rattle.explain_cause.specs.Tests.{merge_point_from}
 use Rattle.explain_cause.proofs.decisions.merge_point.Goals as goal
 

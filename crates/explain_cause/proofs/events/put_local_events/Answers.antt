@@ -1,7 +1,6 @@
 use Rattle.std.proofs.Common.{◌∙◌, ◌++◌, sym, ap, arith}
 use Rattle.guest_code.specs.declared.program.Instruction.TheVariants.{Skip}
-use Rattle.explain_cause.specs.Course.{locals_after}
-use Rattle.explain_cause.proofs.Runs.{jumped}
+use Rattle.explain_cause.{specs.Course.locals_after, proofs.Runs.jumped}
 use Rattle.explain_cause.proofs.events.put_local_events.Goals as goal
 
 pub loop-at-preserved-then-skip-gt0 : goal.loop-at-preserved-then-skip-gt0

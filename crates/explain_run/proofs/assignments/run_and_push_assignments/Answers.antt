@@ -1,8 +1,6 @@
 use Rattle.std.proofs.Common.{◌++◌, ◌∙◌, ◌<◌, ap, arith, rules, length, get_or, drop, append_assoc}
-use Rattle.guest_code.specs.Program.{LocalsBelow}
-use Rattle.guest_code.specs.declared.program.Instruction.TheVariants.{Load}
-use Rattle.explain_run.specs.Settings.{settings_in}
-use Rattle.explain_run.specs.inner.Runs.{set_at}
+use Rattle.guest_code.specs.{Program.LocalsBelow, declared.program.Instruction.TheVariants.Load}
+use Rattle.explain_run.specs.{Settings.settings_in, inner.Runs.set_at}
 use Rattle.explain_run.proofs.LocalRunsTold.{set_run}
 use Rattle.explain_run.proofs.assignments.run_and_push_assignments.Goals as goal
 

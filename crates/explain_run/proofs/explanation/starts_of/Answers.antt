@@ -1,13 +1,10 @@
-use Rattle.std.proofs.Common.{◌≡◌, ◌∙◌, ◌++◌, List, replicate, sym, subst, ap, inl, inr, Some}
 use Rattle.std.specs.Prelude.{pos}
+use Rattle.std.proofs.Common.{◌≡◌, ◌∙◌, ◌++◌, List, replicate, sym, subst, ap, inl, inr, Some}
 use Rattle.std.specs.List.{slice_get}
 use Rattle.guest_code.specs.declared.program.Instruction.{Instruction}
-use Rattle.semantics.specs.Machine.{Snapshot, thread_at}
-use Rattle.semantics.specs.Ends.{stop_of}
-use Rattle.explain_run.specs.declared.explanation.Start.{Start}
-use Rattle.explain_run.specs.declared.assignments.Assignment.{Assignment}
-use Rattle.explain_run.specs.Explains.{Begins}
-use Rattle.explain_run.specs.Settings.{settings_in}
+use Rattle.semantics.specs.{Ends.stop_of, Machine.{Snapshot, thread_at}}
+use Rattle.explain_run.specs.{Explains.Begins, Settings.settings_in}
+use Rattle.explain_run.specs.declared.{assignments.Assignment.Assignment, explanation.Start.Start}
 use Rattle.explain_run.proofs.Pushed.{pushed_at, one_longer}
 use Rattle.explain_run.proofs.explanation.starts_of.Goals as goal
 

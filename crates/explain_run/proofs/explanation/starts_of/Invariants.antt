@@ -1,7 +1,6 @@
 use Rattle.std.proofs.Common.{◌≡◌, ℕ, length, Some}
 use Rattle.std.specs.List.{slice_get}
-use Rattle.explain_run.specs.declared.explanation.Start.{Start}
-use Rattle.explain_run.specs.Explains.{Begins}
+use Rattle.explain_run.specs.{Explains.Begins, declared.explanation.Start.Start}
 use Rattle.explain_run.proofs.explanation.starts_of.Given as goal
 
 abbrev pub invariant-loop-t : goal.invariant-loop-t

@@ -1,7 +1,6 @@
 use Rattle.std.proofs.Common.{◌≡◌, ◌∙◌, sym, subst, inl, inr, Some}
 use Rattle.std.specs.List.{slice_get}
-use Rattle.explain_run.specs.Blocked.{Stands}
-use Rattle.explain_run.proofs.Pushed.{pushed_at, one_longer}
+use Rattle.explain_run.{specs.Blocked.Stands, proofs.Pushed.{pushed_at, one_longer}}
 use Rattle.explain_run.proofs.explanation.thread_states_in.Goals as goal
 
 pub loop-t-preserved : goal.loop-t-preserved

@@ -1,7 +1,6 @@
 use Rattle.std.proofs.Common.{◌≡◌, ℕ, length, Some}
 use Rattle.std.specs.List.{slice_get}
-use Rattle.explain_run.specs.declared.thread_state.ThreadState.{ThreadState}
-use Rattle.explain_run.specs.Blocked.{Stands}
+use Rattle.explain_run.specs.{Blocked.Stands, declared.thread_state.ThreadState.ThreadState}
 use Rattle.explain_run.proofs.explanation.thread_states_in.Given as goal
 
 abbrev pub invariant-loop-t : goal.invariant-loop-t

@@ -1,7 +1,6 @@
 use Rattle.std.proofs.Common.{◌≡◌}
 use Rattle.std.specs.List.{filter}
-use Rattle.semantics.specs.Machine.{owner_of, owns}
-use Rattle.semantics.specs.Work.{up_from}
+use Rattle.semantics.specs.{Machine.{owner_of, owns}, Work.up_from}
 use Rattle.explain_run.proofs.step.held_by.Given as goal
 
 abbrev pub invariant-loop-m : goal.invariant-loop-m

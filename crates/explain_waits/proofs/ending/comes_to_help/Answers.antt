@@ -1,12 +1,10 @@
-use Rattle.std.proofs.Common.{◌≡◌, ◌∙◌, ℕ, ◌<◌, not, ap, refl, arith, below_more, length, get_or}
 use Rattle.std.specs.Prelude.{IsTrue}
+use Rattle.std.proofs.Common.{◌≡◌, ◌∙◌, ℕ, ◌<◌, not, ap, refl, arith, below_more, length, get_or}
 use Rattle.std.proofs.lemmas.List.{get_or_default}
 use Rattle.guest_code.specs.declared.program.Instruction.TheVariants.{Load, Skip}
+use Rattle.explain_waits.specs.{Endings.{could_end, writes_one}, Fates.is_to_come}
 use Rattle.explain_waits.specs.declared.fate.Fate.TheVariants.{Taken, Ahead, OutOfReach}
-use Rattle.explain_waits.specs.Fates.{is_to_come}
-use Rattle.explain_waits.specs.Endings.{could_end, writes_one}
-use Rattle.explain_waits.specs.inner.Rows.{FindsHelp}
-use Rattle.explain_waits.proofs.Helped.{help_none, help_more, not_all}
+use Rattle.explain_waits.{specs.inner.Rows.FindsHelp, proofs.Helped.{help_none, help_more, not_all}}
 use Rattle.explain_waits.proofs.ending.comes_to_help.Goals as goal
 
 pub loop-at-init : goal.loop-at-init

@@ -1,6 +1,5 @@
 use Rattle.std.proofs.Common.{◌≡◌}
-use Rattle.explain_waits.specs.Endings.{statements_to}
-use Rattle.explain_waits.specs.inner.Rows.{lists}
+use Rattle.explain_waits.specs.{Endings.statements_to, inner.Rows.lists}
 use Rattle.explain_waits.proofs.ending.unblocking_statements.Given as goal
 
 abbrev pub invariant-loop-u : goal.invariant-loop-u

@@ -1,10 +1,9 @@
 use Rattle.std.proofs.Common.{◌∙◌, ap, Vec, Global}
 use Rattle.std.proofs.lemmas.List.{map_push}
-use Rattle.explain_waits.specs.declared.fate.Fate.{Fate}
-use Rattle.explain_waits.specs.inner.Rows.{lists}
-use Rattle.explain_run.proofs.Pushed.{one_longer}
+use Rattle.explain_waits.specs.{declared.fate.Fate.Fate, inner.Rows.lists}
 use Rattle.explain_waits.proofs.TakenSteps.{fates_of_more}
 use Rattle.explain_waits.proofs.fate.all_fates.Goals as goal
+use Rattle.explain_run.proofs.Pushed.{one_longer}
 
 pub loop-t-preserved : goal.loop-t-preserved
 loop-t-preserved c =

@@ -1,6 +1,5 @@
 use Rattle.std.proofs.Common.{◌≡◌, ℕ, ◌<◌, [], length, get_or}
-use Rattle.explain_waits.specs.Fates.{Fates}
-use Rattle.explain_waits.specs.inner.Rows.{lists}
+use Rattle.explain_waits.specs.{Fates.Fates, inner.Rows.lists}
 use Rattle.explain_waits.proofs.fate.all_fates.Given as goal
 
 abbrev pub invariant-loop-t : goal.invariant-loop-t

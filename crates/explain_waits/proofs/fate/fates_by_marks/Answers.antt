@@ -1,8 +1,7 @@
 use Rattle.std.proofs.Common.{List, sym, subst, refl}
 use Rattle.std.proofs.lemmas.List.{get_or_default}
 use Rattle.guest_code.specs.declared.program.Instruction.TheVariants.{Load, Skip}
-use Rattle.explain_waits.specs.declared.fate.Fate.{Fate}
-use Rattle.explain_waits.specs.inner.Taking.{ArePassed}
+use Rattle.explain_waits.specs.{declared.fate.Fate.Fate, inner.Taking.ArePassed}
 use Rattle.explain_waits.proofs.WaysAhead.{passed_none, passed_more}
 use Rattle.explain_waits.proofs.fate.fates_by_marks.Goals as goal
 

@@ -1,9 +1,7 @@
-use Rattle.std.proofs.Common.{ℕ, List, length}
-use Rattle.std.proofs.Common.{Vec, Global}
+use Rattle.std.proofs.Common.{ℕ, List, length, Vec, Global}
 use Rattle.std.proofs.lemmas.Result.{IfOk-weaker}
 use Rattle.explain_run.specs.declared.step.Step.{Step}
-use Rattle.explain_waits.specs.declared.fate.Fate.{Fate}
-use Rattle.explain_waits.specs.inner.Taking.{AreByMarks, AreFates}
+use Rattle.explain_waits.specs.{declared.fate.Fate.Fate, inner.Taking.{AreByMarks, AreFates}}
 use Rattle.explain_waits.proofs.WaysAhead.{by_marks}
 use Rattle.explain_waits.proofs.fate.fates_by_ways.Goals as goal
 

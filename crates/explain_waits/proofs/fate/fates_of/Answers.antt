@@ -1,8 +1,6 @@
 use Rattle.std.proofs.Common.{◌≡◌, ◌∙◌, List, length, sym, subst, ap}
 use Rattle.explain_run.proofs.Pushed.{written_back}
-use Rattle.explain_waits.specs.declared.fate.Fate.{Fate}
-use Rattle.explain_waits.specs.Fates.{Fates}
-use Rattle.explain_waits.specs.inner.Taking.{AreFates}
+use Rattle.explain_waits.specs.{Fates.Fates, declared.fate.Fate.Fate, inner.Taking.AreFates}
 use Rattle.explain_waits.proofs.TakenSteps.{fates_from}
 use Rattle.explain_waits.proofs.fate.fates_of.Goals as goal
 

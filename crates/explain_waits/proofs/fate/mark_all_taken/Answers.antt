@@ -1,7 +1,6 @@
 use Rattle.std.proofs.Common.{◌∙◌, ℕ, ◌+◌, length, sym, subst, refl, arith}
 use Rattle.std.proofs.lemmas.Option.{slice_get_read}
-use Rattle.explain_waits.specs.inner.Taking.{AreFates}
-use Rattle.explain_waits.proofs.TakenSteps.{passed_own, passed_other}
+use Rattle.explain_waits.{specs.inner.Taking.AreFates, proofs.TakenSteps.{passed_own, passed_other}}
 use Rattle.explain_waits.proofs.fate.mark_all_taken.Goals.{then-step-thread, else-step-thread}
 use Rattle.explain_waits.proofs.fate.mark_all_taken.Goals as goal
 

@@ -1,5 +1,4 @@
-use Rattle.explain_waits.specs.Graph.{IsIn}
-use Rattle.explain_waits.proofs.Closures.{AreThrough}
+use Rattle.explain_waits.{specs.Graph.IsIn, proofs.Closures.AreThrough}
 use Rattle.explain_waits.proofs.graph.transitive_closure.Given as goal
 
 abbrev pub invariant-loop-k : goal.invariant-loop-k

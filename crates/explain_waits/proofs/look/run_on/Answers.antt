@@ -1,6 +1,5 @@
 use Rattle.std.proofs.Common.{ap, arith, drop}
-use Rattle.semantics.specs.declared.state.Thread.{Thread}
-use Rattle.semantics.specs.declared.state.Status.TheVariants.{Running}
+use Rattle.semantics.specs.declared.state.{Status.TheVariants.Running, Thread.Thread}
 use Rattle.semantics.proofs.WorkFalls.{local_run-pc}
 use Rattle.explain_waits.proofs.look.run_on.Goals as goal
 

@@ -1,11 +1,10 @@
-use Rattle.std.proofs.Common.{◌≡◌, ◌∙◌, ℕ, ◌+◌, ◌<◌, List, length, sym, subst, arith}
 use Rattle.std.specs.Prelude.{◌↔◌}
+use Rattle.std.proofs.Common.{◌≡◌, ◌∙◌, ℕ, ◌+◌, ◌<◌, List, length, sym, subst, arith}
 use Rattle.std.proofs.lemmas.List.{length-set, length-replicate}
 use Rattle.guest_code.specs.declared.limits.TheConstants.{THREADS}
 use Rattle.semantics.specs.declared.mask.Mask.{Mask}
-use Rattle.explain_waits.specs.Graph.{WaitsFor, IsIn}
+use Rattle.explain_waits.{specs.Graph.{WaitsFor, IsIn}, proofs.FoundAhead.edges_found}
 use Rattle.explain_waits.proofs.Sets.{rows_none, rows_put, rows_kept, both}
-use Rattle.explain_waits.proofs.FoundAhead.{edges_found}
 use Rattle.explain_waits.proofs.wait.wait_for_graph.Goals.{in-Some+in_ok-look, in_default}
 use Rattle.explain_waits.proofs.wait.wait_for_graph.Goals as goal
 

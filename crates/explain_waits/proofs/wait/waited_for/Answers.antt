@@ -1,12 +1,9 @@
+use Rattle.std.specs.Prelude.{◌↔◌, IsTrue}
 use Rattle.std.proofs.Common.{◌∙◌, ℕ, List, [], sym, subst, arith, get_or, Vec, Global}
 use Rattle.std.proofs.lemmas.List.{length-map}
-use Rattle.std.specs.Prelude.{◌↔◌, IsTrue}
-use Rattle.guest_code.specs.declared.program.Instruction.{Instruction}
-use Rattle.guest_code.specs.Program.{code_of}
-use Rattle.explain_waits.specs.declared.fate.Fate.{Fate}
-use Rattle.explain_waits.specs.inner.Rows.{lists, FindsEdge}
-use Rattle.explain_waits.proofs.Sets.{picked_more}
-use Rattle.explain_waits.proofs.FoundAhead.{list_at}
+use Rattle.guest_code.specs.{Program.code_of, declared.program.Instruction.Instruction}
+use Rattle.explain_waits.specs.{declared.fate.Fate.Fate, inner.Rows.{lists, FindsEdge}}
+use Rattle.explain_waits.proofs.{FoundAhead.list_at, Sets.picked_more}
 use Rattle.explain_waits.proofs.wait.waited_for.Goals as goal
 
 pub loop-u-preserved : goal.loop-u-preserved

@@ -2,8 +2,7 @@ use Rattle.std.proofs.Common.{◌∙◌, ℕ, ◌<◌, Bool, true, false, ◌||�
 use Rattle.std.proofs.lemmas.List.{get_or_default, length-set}
 use Rattle.guest_code.specs.declared.program.Instruction.TheVariants.{Load, Skip}
 use Rattle.check_lint.specs.Paths.{mark_of, no_mark}
-use Rattle.explain_waits.specs.Ways.{tests}
-use Rattle.explain_waits.proofs.OpenTests.{opens_more}
+use Rattle.explain_waits.{specs.Ways.tests, proofs.OpenTests.opens_more}
 use Rattle.explain_waits.proofs.ways.mark_open.Goals as goal
 
 pub loop-at-preserved : goal.loop-at-preserved

@@ -1,10 +1,8 @@
 use Rattle.std.proofs.Common.{◌≡◌, ◌∙◌, ◌+◌, Bool, true, false, List, ◌||◌, ◌&&◌, length, sym, subst, ap, get_or}
 use Rattle.guest_code.specs.declared.program.Instruction.TheVariants.{Skip}
-use Rattle.check_lint.specs.declared.paths.Mark.{Mark}
-use Rattle.check_lint.specs.Paths.{mark_of, no_mark}
+use Rattle.check_lint.specs.{Paths.{mark_of, no_mark}, declared.paths.Mark.Mark}
 use Rattle.explain_run.proofs.Pushed.{written_back}
-use Rattle.explain_waits.specs.Ways.{tests}
-use Rattle.explain_waits.specs.inner.Settling.{AreOpenBelow}
+use Rattle.explain_waits.specs.{Ways.tests, inner.Settling.AreOpenBelow}
 use Rattle.explain_waits.proofs.OpenTests.{open_more}
 use Rattle.explain_waits.proofs.ways.open_tests.Goals as goal
 

@@ -1,10 +1,9 @@
-use Rattle.std.proofs.Common.{◌<◌, Bool, false, length, sym, subst, arith}
 use Rattle.std.specs.Prelude.{◌↔◌, IsTrue}
+use Rattle.std.proofs.Common.{◌<◌, Bool, false, length, sym, subst, arith}
 use Rattle.std.proofs.lemmas.List.{get_or_default, get_or_read}
 use Rattle.guest_code.specs.declared.program.Instruction.TheVariants.{Load, Skip}
 use Rattle.explain_run.proofs.Pushed.{one_longer}
-use Rattle.explain_waits.specs.Ways.{IsOpen}
-use Rattle.explain_waits.proofs.OpenTests.{settled_at, settled_more}
+use Rattle.explain_waits.{specs.Ways.IsOpen, proofs.OpenTests.{settled_at, settled_more}}
 use Rattle.explain_waits.proofs.ways.settled_code.Goals as goal
 
 pub loop-at-preserved : goal.loop-at-preserved

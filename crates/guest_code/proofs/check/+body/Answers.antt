@@ -1,6 +1,5 @@
 use Rattle.std.proofs.lemmas.Result.{err_from_is_err_and}
-use Rattle.guest_code.specs.Program.{locals_view}
-use Rattle.guest_code.specs.inner.Walk.{all_uses}
+use Rattle.guest_code.specs.{Program.locals_view, inner.Walk.all_uses}
 use Rattle.guest_code.proofs.CheckIsFault.{block_goes, block_stops}
 use Rattle.guest_code.proofs.check.+body.Goals as goal
 

@@ -1,10 +1,7 @@
 use Rattle.std.proofs.Common.{◌≡◌, ◌+◌, ◌*◌, max, drop}
 use denote.Param.Weighed.{most}
-use Rattle.guest_syntax.proofs.tree.Placed.TheLaws.{the_size}
-use Rattle.guest_syntax.specs.Tree.{block_view}
-use Rattle.guest_code.specs.Program.{locals_view}
-use Rattle.guest_code.specs.Uses.{block_uses}
-use Rattle.guest_code.specs.inner.Walk.{all_uses, walk}
+use Rattle.guest_syntax.{specs.Tree.block_view, proofs.tree.Placed.TheLaws.the_size}
+use Rattle.guest_code.specs.{Program.locals_view, Uses.block_uses, inner.Walk.{all_uses, walk}}
 use Rattle.guest_code.proofs.check.+body.Given as goal
 
 abbrev pub decreases-check_block : goal.decreases-check_block

@@ -1,8 +1,7 @@
 use Rattle.std.proofs.Common.{arith, refl}
 use Rattle.std.proofs.lemmas.Result.{err_from_is_err_and}
 use Rattle.guest_syntax.specs.Tree.{name_view}
-use Rattle.guest_code.specs.Program.{locals_view}
-use Rattle.guest_code.specs.inner.Walk.{all_uses}
+use Rattle.guest_code.specs.{Program.locals_view, inner.Walk.all_uses}
 use Rattle.guest_code.proofs.CheckAnswers.{names_not, names_begin, thread_not, body_not, thread_goes, locals_go, few_go}
 use Rattle.guest_code.proofs.check.check_and_collect_locals.Goals as goal
 

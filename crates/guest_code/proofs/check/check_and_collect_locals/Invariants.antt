@@ -1,10 +1,8 @@
 use Rattle.std.proofs.Common.{◌≡◌, ◌≤◌, [], drop, take, map}
 use Rattle.guest_syntax.specs.Tree.{declaration_view, thread_view}
-use Rattle.guest_code.specs.declared.limits.TheConstants.{THREADS}
+use Rattle.guest_code.specs.{Fault.first, Program.locals_view}
 use Rattle.guest_code.specs.Uses.{uses, threads_uses, thread_locals}
-use Rattle.guest_code.specs.Fault.{first}
-use Rattle.guest_code.specs.Program.{locals_view}
-use Rattle.guest_code.specs.inner.Walk.{all_uses}
+use Rattle.guest_code.specs.{declared.limits.TheConstants.THREADS, inner.Walk.all_uses}
 use Rattle.guest_code.proofs.check.check_and_collect_locals.Given as goal
 
 abbrev pub invariant-loop-i : goal.invariant-loop-i

@@ -1,5 +1,4 @@
-use Rattle.guest_code.specs.inner.Walk.{all_uses}
-use Rattle.guest_code.proofs.CheckAnswers.{declaration_goes}
+use Rattle.guest_code.{specs.inner.Walk.all_uses, proofs.CheckAnswers.declaration_goes}
 use Rattle.guest_code.proofs.check.check_declarations.Goals as goal
 
 pub loop-i-preserved : goal.loop-i-preserved

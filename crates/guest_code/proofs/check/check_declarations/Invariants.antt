@@ -1,8 +1,6 @@
 use Rattle.std.proofs.Common.{◌≡◌, [], drop, take, map}
 use Rattle.guest_syntax.specs.Tree.{declaration_view}
-use Rattle.guest_code.specs.Uses.{declarations_uses}
-use Rattle.guest_code.specs.Fault.{first}
-use Rattle.guest_code.specs.inner.Walk.{all_uses}
+use Rattle.guest_code.specs.{Fault.first, Uses.declarations_uses, inner.Walk.all_uses}
 use Rattle.guest_code.proofs.check.check_declarations.Given as goal
 
 abbrev pub invariant-loop-i : goal.invariant-loop-i

@@ -1,6 +1,5 @@
 use Rattle.std.proofs.Common.{◌≡◌, drop}
-use Rattle.guest_code.specs.Program.{names_view}
-use Rattle.guest_code.specs.Uses.{knows}
+use Rattle.guest_code.specs.{Program.names_view, Uses.knows}
 use Rattle.guest_code.proofs.check.contains_name.Given as goal
 
 abbrev pub invariant-loop-local : goal.invariant-loop-local

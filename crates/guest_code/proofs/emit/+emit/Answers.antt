@@ -1,12 +1,10 @@
 use Rattle.std.proofs.Common.{◌≡◌, sym, ◌∙◌, arith}
 use Rattle.std.proofs.lemmas.List.{append-nil}
 use Rattle.guest_syntax.specs.Tree.{block_view}
-use Rattle.guest_code.specs.inner.Emission.{names_of}
-use Rattle.guest_code.specs.Sizes.{block_size}
-use Rattle.guest_code.specs.Code.{block_code}
+use Rattle.guest_code.specs.{Code.block_code, Sizes.block_size, inner.Emission.names_of}
 use Rattle.guest_code.proofs.CodeLengths.{unrolled_none, unrolled_step, unrolled_end, cut_below}
-use Rattle.guest_code.proofs.emit.+emit.Goals as goal
 use Rattle.guest_code.proofs.emit.+emit.Goals.{emit_copies-then-times-eq0-via-then-times-eq0, emit_copies-then-times-eq0-via-else-times-eq0+then-len-eq0}
+use Rattle.guest_code.proofs.emit.+emit.Goals as goal
 
 pub emit_copies-returns-then-times-eq0 : goal.emit_copies-returns-then-times-eq0
 emit_copies-returns-then-times-eq0 t c = elim c.then-times-eq0.branch [

@@ -1,9 +1,7 @@
 use Rattle.std.proofs.Common.{◌≡◌, ◌+◌, ◌*◌, ◌≤◌, ◌<◌, ◌++◌, ◌^◌, max, drop}
 use denote.Param.Weighed.{most}
-use Rattle.guest_syntax.proofs.tree.Placed.TheLaws.{the_size}
-use Rattle.guest_syntax.specs.Tree.{block_view}
-use Rattle.guest_code.specs.declared.limits.TheConstants.{INSTRUCTIONS}
-use Rattle.guest_code.specs.Code.{block_code, unrolled}
+use Rattle.guest_syntax.{specs.Tree.block_view, proofs.tree.Placed.TheLaws.the_size}
+use Rattle.guest_code.specs.{Code.{block_code, unrolled}, declared.limits.TheConstants.INSTRUCTIONS}
 use Rattle.guest_code.specs.inner.Emission.{names_of, size_of, block_code_in}
 use Rattle.guest_code.proofs.emit.+emit.Given as goal
 

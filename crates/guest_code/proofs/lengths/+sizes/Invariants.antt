@@ -1,7 +1,6 @@
 use Rattle.std.proofs.Common.{◌≡◌, ◌+◌, ◌≤◌, min, drop}
 use Rattle.guest_syntax.specs.Tree.{block_view}
-use Rattle.guest_code.specs.declared.limits.TheConstants.{INSTRUCTIONS}
-use Rattle.guest_code.specs.Sizes.{block_size}
+use Rattle.guest_code.specs.{Sizes.block_size, declared.limits.TheConstants.INSTRUCTIONS}
 use Rattle.guest_code.proofs.lengths.+sizes.Given as goal
 
 abbrev pub invariant-size_of_block-loop-placed : goal.invariant-size_of_block-loop-placed

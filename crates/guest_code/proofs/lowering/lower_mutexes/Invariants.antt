@@ -1,7 +1,5 @@
 use Rattle.std.proofs.Common.{◌≡◌, ◌++◌, drop}
-use Rattle.guest_code.specs.Program.{names_view}
-use Rattle.guest_code.specs.Code.{mutex_of}
-use Rattle.guest_code.specs.inner.Emission.{objects_in}
+use Rattle.guest_code.specs.{Code.mutex_of, Program.names_view, inner.Emission.objects_in}
 use Rattle.guest_code.proofs.lowering.lower_mutexes.Given as goal
 
 abbrev pub invariant-loop-declaration : goal.invariant-loop-declaration

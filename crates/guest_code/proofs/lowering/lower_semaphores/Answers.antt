@@ -1,9 +1,8 @@
 use Rattle.std.proofs.Common.{◌∙◌, ap}
-use Rattle.guest_code.specs.Program.{semaphore_view}
-use Rattle.guest_code.specs.Code.{semaphore_of}
+use Rattle.guest_code.specs.{Code.semaphore_of, Program.semaphore_view}
 use Rattle.guest_code.proofs.LoweredObjects.{objects_more, objects_same, is_semaphore, not_semaphore, counts_more}
-use Rattle.guest_code.proofs.lowering.lower_semaphores.Goals as goal
 use Rattle.guest_code.proofs.lowering.lower_semaphores.Goals.{in-Semaphore+in_ok-lower_semaphore+in_ok-push, in_default}
+use Rattle.guest_code.proofs.lowering.lower_semaphores.Goals as goal
 
 pub loop-declaration-preserved : goal.loop-declaration-preserved
 loop-declaration-preserved c = elim c.match-declaration.branch [

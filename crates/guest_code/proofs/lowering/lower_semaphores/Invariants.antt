@@ -1,8 +1,6 @@
 use Rattle.std.proofs.Common.{◌≡◌, ◌≤◌, ◌++◌, drop, All}
-use Rattle.guest_code.specs.declared.limits.TheConstants.{COUNT}
-use Rattle.guest_code.specs.Program.{semaphores_view}
-use Rattle.guest_code.specs.Code.{semaphore_of}
-use Rattle.guest_code.specs.inner.Emission.{objects_in}
+use Rattle.guest_code.specs.{Code.semaphore_of, Program.semaphores_view}
+use Rattle.guest_code.specs.{declared.limits.TheConstants.COUNT, inner.Emission.objects_in}
 use Rattle.guest_code.proofs.lowering.lower_semaphores.Given as goal
 
 abbrev pub invariant-loop-declaration : goal.invariant-loop-declaration

@@ -1,8 +1,6 @@
 use Rattle.std.proofs.Common.{◌≡◌, map, take, drop, None}
 use Rattle.guest_syntax.specs.Tree.{declaration_view, thread_view}
-use Rattle.guest_code.specs.Fault.{too_long}
-use Rattle.guest_code.specs.Program.{thread_view as code_view}
-use Rattle.guest_code.specs.Code.{thread_code}
+use Rattle.guest_code.specs.{Code.thread_code, Fault.too_long, Program.thread_view as code_view}
 use Rattle.guest_code.proofs.lowering.lower_threads.Given as goal
 
 abbrev pub invariant-loop-i : goal.invariant-loop-i

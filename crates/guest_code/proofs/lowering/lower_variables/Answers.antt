@@ -1,9 +1,8 @@
 use Rattle.std.proofs.Common.{◌∙◌, ap, rules, w64, FitsSigned, to_z-of_z}
-use Rattle.guest_code.specs.Program.{variable_view}
-use Rattle.guest_code.specs.Code.{variable_of}
+use Rattle.guest_code.specs.{Code.variable_of, Program.variable_view}
 use Rattle.guest_code.proofs.LoweredObjects.{objects_more, objects_same, is_variable, not_variable}
-use Rattle.guest_code.proofs.lowering.lower_variables.Goals as goal
 use Rattle.guest_code.proofs.lowering.lower_variables.Goals.{in-Variable+in_ok-lower_variable+in_ok-push, in_default}
+use Rattle.guest_code.proofs.lowering.lower_variables.Goals as goal
 
 pub loop-declaration-preserved : goal.loop-declaration-preserved
 loop-declaration-preserved c = elim c.match-declaration.branch [

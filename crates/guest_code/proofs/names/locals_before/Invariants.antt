@@ -1,6 +1,5 @@
 use Rattle.std.proofs.Common.{◌≡◌, ◌+◌, drop}
-use Rattle.guest_code.specs.Program.{names_view}
-use Rattle.guest_code.specs.Code.{local_index}
+use Rattle.guest_code.specs.{Code.local_index, Program.names_view}
 use Rattle.guest_code.proofs.names.locals_before.Given as goal
 
 abbrev pub invariant-loop-local : goal.invariant-loop-local

@@ -1,8 +1,7 @@
 use Rattle.std.proofs.Common.{◌≡◌, sym, arith}
 use Rattle.std.proofs.lemmas.List.{append-nil}
 use Rattle.guest_syntax.specs.Tree.{block_view}
-use Rattle.guest_code.specs.Sizes.{block_size}
-use Rattle.guest_code.specs.SourceMap.{block_places}
+use Rattle.guest_code.specs.{Sizes.block_size, SourceMap.block_places}
 use Rattle.guest_code.proofs.SourcePlaces.{copies_none, copies_step}
 use Rattle.guest_code.proofs.source_map.+places.Goals as goal
 

@@ -1,6 +1,5 @@
 use Rattle.std.proofs.Common.{length, sym}
-use Rattle.guest_syntax.specs.Place.{start}
-use Rattle.guest_syntax.specs.reader.TokenViews.{kind_view}
+use Rattle.guest_syntax.specs.{Place.start, reader.TokenViews.kind_view}
 use Rattle.guest_syntax.proofs.PlacesInText.{follows_in_same}
 use Rattle.guest_syntax.proofs.RefusalPlaces.{some_bytes, kind_is_in, bad_char_is_in}
 use Rattle.guest_syntax.proofs.lexer.first_token.Goals as goal

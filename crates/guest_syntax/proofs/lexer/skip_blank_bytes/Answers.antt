@@ -1,8 +1,7 @@
 use Rattle.std.proofs.Common.{List, Some, add-one, ap, arith, drop, drop-cons, get_or, length, refl, subst, sym, ℕ, ◌+◌, ◌∙◌, ◌∷◌, ◌≡◌}
-use Rattle.guest_syntax.specs.reader.BlankBytes.{Passed, Stops, NotAscii}
-use Rattle.guest_syntax.proofs.ByteLoops.{from_at, skipped_step, skipped_end}
-use Rattle.guest_syntax.specs.Place.{Follows}
+use Rattle.guest_syntax.specs.{Place.Follows, reader.BlankBytes.{Passed, Stops, NotAscii}}
 use Rattle.guest_syntax.proofs.BlankRuns.{above_step, passed_step, stops_step}
+use Rattle.guest_syntax.proofs.ByteLoops.{from_at, skipped_step, skipped_end}
 use Rattle.guest_syntax.proofs.PlacesInText.{nothing_follows, follows_then, byte_follows}
 use Rattle.guest_syntax.proofs.lexer.skip_blank_bytes.Goals as goal
 

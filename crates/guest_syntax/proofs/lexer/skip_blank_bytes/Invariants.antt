@@ -1,6 +1,5 @@
 use Rattle.std.proofs.Common.{◌≡◌, ◌+◌, ◌≤◌, false, drop}
-use Rattle.guest_syntax.specs.reader.Scanner.{skipped}
-use Rattle.guest_syntax.specs.Place.{Follows}
+use Rattle.guest_syntax.specs.{Place.Follows, reader.Scanner.skipped}
 use Rattle.guest_syntax.proofs.lexer.skip_blank_bytes.Given as goal
 
 abbrev pub invariant-loop-i : goal.invariant-loop-i

@@ -1,8 +1,7 @@
 use Rattle.std.proofs.Common.{arith}
 use Rattle.std.proofs.lemmas.Result.{err_from_is_err_and}
-use Rattle.guest_syntax.specs.Place.{start, Follows}
+use Rattle.guest_syntax.{specs.Place.{start, Follows}, proofs.BlankRuns.skipped_follows}
 use Rattle.guest_syntax.proofs.PlacesInText.{follows_then, refusal_then, cursor_follows, follows_left, follows_after}
-use Rattle.guest_syntax.proofs.BlankRuns.{skipped_follows}
 use Rattle.guest_syntax.proofs.lexer.skip_blanks.Goals as goal
 
 pub returns-in_err-at-clause-refused : goal.returns-in_err-at-clause-refused

@@ -1,6 +1,5 @@
 use Rattle.std.proofs.Common.{inl, inr, sym}
-use Rattle.guest_syntax.specs.reader.TokenViews.{kind_view}
-use Rattle.guest_syntax.proofs.PiecesOfText.{whole, stray}
+use Rattle.guest_syntax.{specs.reader.TokenViews.kind_view, proofs.PiecesOfText.{whole, stray}}
 use Rattle.guest_syntax.proofs.pieces.piece_len.Goals as goal
 
 pub returns-in-Some-clause-some : goal.returns-in-Some-clause-some

@@ -1,5 +1,4 @@
-use Rattle.guest_syntax.specs.Answers.{is_token}
-use Rattle.guest_syntax.specs.reader.TokenViews.{kind_view}
+use Rattle.guest_syntax.specs.{Answers.is_token, reader.TokenViews.kind_view}
 use Rattle.guest_syntax.proofs.tokens.number_in.Goals as goal
 
 pub returns-in_default-clause-place : goal.returns-in_default-clause-place

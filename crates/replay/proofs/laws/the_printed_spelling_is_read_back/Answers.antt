@@ -1,7 +1,6 @@
 use Rattle.std.proofs.Common.{sym, subst}
-use Rattle.replay.specs.Spelling.{Spells}
+use Rattle.replay.{specs.Spelling.Spells, proofs.PrintedRuns.printed_spells}
 use Rattle.replay.proofs.SpelledOnce.{spelt_once}
-use Rattle.replay.proofs.PrintedRuns.{printed_spells}
 use Rattle.replay.proofs.laws.the_printed_spelling_is_read_back.Goals as goal
 
 pub returns-clause-spells : goal.returns-clause-spells

@@ -1,8 +1,6 @@
 use Rattle.std.proofs.Common.{rules, tests, ◌≢◌, ◌<◌, length, slice_index, ◌∙◌, sym, ap, not}
-use Rattle.std.proofs.lemmas.Bool.{false≢true}
-use Rattle.std.proofs.lemmas.Iterator.{YieldsList-from_slice}
-use Rattle.std.proofs.lemmas.Iterator.Search.{all_from_yields_List}
-use Rattle.std.specs.Char.{is_ascii_digit}
+use Rattle.std.{specs.Char.is_ascii_digit, proofs.lemmas.Bool.false≢true}
+use Rattle.std.proofs.lemmas.Iterator.{YieldsList-from_slice, Search.all_from_yields_List}
 use Rattle.replay.proofs.NumberTexts.{digits_when, whether_digits, plain_first}
 use Rattle.replay.proofs.piece.is_count.Goals.{then-not-is_empty, else-not-is_empty}
 use Rattle.replay.proofs.piece.is_count.Goals as goal

@@ -1,7 +1,5 @@
 use Rattle.std.proofs.Common.{sym, ◌∙◌}
-use Rattle.std.proofs.lemmas.Bool.{false≢true}
-use Rattle.std.proofs.lemmas.Bool.Decides.{Decides-eqb}
-use Rattle.std.proofs.lemmas.Slice.Eq.{slice_eq-Decides}
+use Rattle.std.proofs.lemmas.{Bool.false≢true, Bool.Decides.Decides-eqb, Slice.Eq.slice_eq-Decides}
 use Rattle.replay.proofs.NumberTexts.{zero_is_number, number_by_count, number_large, no_number}
 use Rattle.replay.proofs.piece.thread_number_of.Goals as goal
 

@@ -1,7 +1,6 @@
 use Rattle.std.proofs.Common.{arith, refl, sym, subst, All, length-take}
 use Rattle.std.proofs.lemmas.List.Elements.{All-push}
-use Rattle.replay.specs.Trace.{IsValidLine}
-use Rattle.replay.proofs.LinesOfSteps.{few_so_far, told_more}
+use Rattle.replay.{specs.Trace.IsValidLine, proofs.LinesOfSteps.{few_so_far, told_more}}
 use Rattle.replay.proofs.run.replay.Goals as goal
 
 pub take_step-requires-clause-room : goal.take_step-requires-clause-room

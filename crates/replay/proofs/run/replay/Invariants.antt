@@ -1,7 +1,6 @@
 use Rattle.std.specs.Prelude.{All}
 use Rattle.semantics_schedules.specs.Execution.{IsExecutionOf}
-use Rattle.replay.specs.Trace.{IsValidLine}
-use Rattle.replay.proofs.LinesOfSteps.{IsToldUpTo}
+use Rattle.replay.{specs.Trace.IsValidLine, proofs.LinesOfSteps.IsToldUpTo}
 use Rattle.replay.proofs.run.replay.Given as goal
 
 abbrev pub invariant-loop-at : goal.invariant-loop-at

@@ -1,7 +1,6 @@
 use Rattle.std.proofs.Common.{arith, ◌<◌, ◌∙◌, ap, sym, subst, All, length}
 use Rattle.std.proofs.lemmas.List.Elements.{All-push}
-use Rattle.semantics.specs.Machine.{thread_at}
-use Rattle.semantics.specs.Ends.{is_stopped}
+use Rattle.semantics.specs.{Ends.is_stopped, Machine.thread_at}
 use Rattle.replay.proofs.LinesOfSteps.{passed_more, passed_same}
 use Rattle.replay.proofs.run.stopped_threads.Goals.{then-has_stopped+in_ok-push, else-has_stopped}
 use Rattle.replay.proofs.run.stopped_threads.Goals as goal

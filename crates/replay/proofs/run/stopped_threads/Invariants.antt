@@ -1,8 +1,6 @@
 use Rattle.std.proofs.Common.{◌≡◌, ◌<◌, length, All}
 use Rattle.std.specs.List.{filter}
-use Rattle.semantics.specs.Machine.{thread_at}
-use Rattle.semantics.specs.Work.{up_from}
-use Rattle.semantics.specs.Ends.{is_stopped}
+use Rattle.semantics.specs.{Ends.is_stopped, Machine.thread_at, Work.up_from}
 use Rattle.replay.proofs.run.stopped_threads.Given as goal
 
 abbrev pub invariant-loop-t : goal.invariant-loop-t

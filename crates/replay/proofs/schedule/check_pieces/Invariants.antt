@@ -1,6 +1,5 @@
 use Rattle.std.proofs.Common.{◌≡◌, map}
-use Rattle.replay.specs.Spelling.{length_with_commas}
-use Rattle.replay.proofs.ReadPieces.{IsRead}
+use Rattle.replay.{specs.Spelling.length_with_commas, proofs.ReadPieces.IsRead}
 use Rattle.replay.proofs.schedule.check_pieces.Given as goal
 
 -- the pieces so far spell a schedule of `places` places, and the next one begins after their commas

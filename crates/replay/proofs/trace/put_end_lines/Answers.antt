@@ -1,6 +1,5 @@
 use Rattle.std.proofs.Common.{◌∙◌, ap, decimal, codes, ◌++◌}
-use Rattle.replay.specs.Trace.{kind_text, values_text}
-use Rattle.replay.proofs.TraceTexts.{end_parts}
+use Rattle.replay.{specs.Trace.{kind_text, values_text}, proofs.TraceTexts.end_parts}
 use Rattle.replay.proofs.trace.put_end_lines.Goals as goal
 
 pub returns : goal.returns

@@ -1,13 +1,12 @@
 use Rattle.std.proofs.Common.{subst, true, false}
-use Rattle.std.proofs.lemmas.Result.{IfOk-weaker}
-use Rattle.std.specs.Arc.{arc_value}
+use Rattle.std.{specs.Arc.arc_value, proofs.lemmas.Result.IfOk-weaker}
 use Rattle.guest_code.specs.Program.{Program}
 use Rattle.walk_items.specs.Items.{root_of}
 use Rattle.runner_report.specs.Promises.{IsReport}
 use Rattle.runner.specs.inner.Judging.{IsAt, Ends}
 use Rattle.runner.proofs.AfterRounds.{course_at, report_ready, ends_weaker}
-use Rattle.runner.proofs.alone.explore_alone.Goals as goal
 use Rattle.runner.proofs.alone.explore_alone.Goals.{After-deref}
+use Rattle.runner.proofs.alone.explore_alone.Goals as goal
 
 pub search_alone-requires-clause-at : goal.search_alone-requires-clause-at
 search_alone-requires-clause-at c = λ k.

@@ -1,10 +1,8 @@
 use Rattle.std.proofs.Common.{◌≡◌, ◌∙◌, sym, subst, refl, Option}
 use Rattle.walk_items.specs.Items.{ItemView}
 use Rattle.runner_report.specs.declared.error.ExploreError.TheVariants.{OutOfMemory}
-use Rattle.runner.specs.declared.judge.Ending.{Ending}
-use Rattle.runner.specs.inner.Judging.{IsAt, ComesAfter}
-use Rattle.runner.proofs.AfterRounds.{kept_on}
-use Rattle.runner.proofs.Errors.{err_is}
+use Rattle.runner.specs.{declared.judge.Ending.Ending, inner.Judging.{IsAt, ComesAfter}}
+use Rattle.runner.proofs.{AfterRounds.kept_on, Errors.err_is}
 use Rattle.runner.proofs.alone.search_alone.Goals as goal
 
 pub returns-in_err-ending-clause-error : goal.returns-in_err-ending-clause-error

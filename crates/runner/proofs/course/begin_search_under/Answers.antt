@@ -1,8 +1,7 @@
 use Rattle.std.proofs.Common.{rules, ◌≡◌, ◌∙◌, ap, sym, subst, refl}
 use Rattle.walk_items.specs.declared.mode.Mode.{Mode}
 use Rattle.book.specs.Books.{BookView, opening_of}
-use Rattle.runner.specs.Levels.{AreBelow}
-use Rattle.runner.specs.inner.Judging.{first_mode, begun}
+use Rattle.runner.specs.{Levels.AreBelow, inner.Judging.{first_mode, begun}}
 use Rattle.runner.proofs.AfterRounds.{opened_at, first_passed}
 use Rattle.runner.proofs.course.begin_search_under.Goals as goal
 

@@ -1,7 +1,6 @@
 use Rattle.std.proofs.Common.{◌∙◌, ap, true, Option, Vec, Global, subst}
 use Rattle.runner_report.specs.declared.level.Level.{Level}
-use Rattle.runner.specs.inner.Judging.{AreKept, level_at}
-use Rattle.runner.proofs.Judgments.{levels_end}
+use Rattle.runner.{specs.inner.Judging.{AreKept, level_at}, proofs.Judgments.levels_end}
 use Rattle.runner.proofs.course.levels_at_end.Goals as goal
 
 pub returns-clause-levels : goal.returns-clause-levels

@@ -1,8 +1,7 @@
 use Rattle.std.proofs.Common.{◌∙◌, ap, sym, subst}
 use Rattle.walk_items.specs.declared.mode.Mode.{Mode}
 use Rattle.book.specs.Books.{BookView}
-use Rattle.runner.specs.inner.Judging.{AreKept, begun}
-use Rattle.runner.proofs.AfterRounds.{raised_at, level_kept}
+use Rattle.runner.{specs.inner.Judging.{AreKept, begun}, proofs.AfterRounds.{raised_at, level_kept}}
 use Rattle.runner.proofs.course.raise.Goals as goal
 
 pub returns-clause-at : goal.returns-clause-at

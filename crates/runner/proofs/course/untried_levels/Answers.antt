@@ -1,8 +1,7 @@
 use Rattle.std.proofs.Common.{◌+◌, List, sym, subst, arith}
 use Rattle.walk_items.specs.declared.mode.Mode.TheVariants.{Bounded}
 use Rattle.runner_report.specs.declared.level.Level.{Level}
-use Rattle.runner.specs.Levels.{AreBelow}
-use Rattle.runner.proofs.AfterRounds.{one_more_below, past_level}
+use Rattle.runner.{specs.Levels.AreBelow, proofs.AfterRounds.{one_more_below, past_level}}
 use Rattle.runner.proofs.course.untried_levels.Goals as goal
 
 pub loop-bound-preserved : goal.loop-bound-preserved

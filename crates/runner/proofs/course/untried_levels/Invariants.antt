@@ -1,7 +1,6 @@
 use Rattle.std.proofs.Common.{◌≤◌}
 use Rattle.semantics_schedules.specs.Schedules.{preemptions}
-use Rattle.walk_items.specs.declared.mode.Mode.TheVariants.{Bounded}
-use Rattle.walk_items.specs.Items.{ItemView, IsItem}
+use Rattle.walk_items.specs.{Items.{ItemView, IsItem}, declared.mode.Mode.TheVariants.Bounded}
 use Rattle.runner.specs.Levels.{AreBelow}
 use Rattle.runner.proofs.course.untried_levels.Given as goal
 

@@ -2,8 +2,7 @@ use Rattle.std.proofs.Common.{◌≡◌, ◌∙◌, ap, arith, Some}
 use Rattle.semantics_schedules.specs.Schedules.{preemptions}
 use Rattle.walk_summary.specs.Summaries.{end_kind}
 use Rattle.replay.specs.Run.{Run}
-use Rattle.runner.proofs.Promises.{ends_somehow, runs_through}
-use Rattle.runner.proofs.Preemptions.{preemptions_fit}
+use Rattle.runner.proofs.{Preemptions.preemptions_fit, Promises.{ends_somehow, runs_through}}
 use Rattle.runner.proofs.reports.end_of.Goals as goal
 
 pub run_of-requires : goal.run_of-requires

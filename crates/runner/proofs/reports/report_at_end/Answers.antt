@@ -2,8 +2,7 @@ use Rattle.std.proofs.Common.{sym, subst, Bool}
 use Rattle.std.proofs.lemmas.Result.{IfOk-weaker}
 use Rattle.walk_items.specs.Items.{root_of}
 use Rattle.runner_report.specs.Promises.{IsReport}
-use Rattle.runner.specs.declared.judge.Ending.{Ending}
-use Rattle.runner.specs.Levels.{HasPassed}
+use Rattle.runner.specs.{Levels.HasPassed, declared.judge.Ending.Ending}
 use Rattle.runner.specs.inner.Judging.{IsFound, Ends}
 use Rattle.runner.proofs.Judgments.{found_of_program, cut_at_end}
 use Rattle.runner.proofs.reports.report_at_end.Goals as goal

@@ -1,6 +1,5 @@
 use Rattle.std.proofs.Common.{subst, refl, true, false}
-use Rattle.std.proofs.lemmas.Result.{IfOk-weaker}
-use Rattle.std.specs.Arc.{arc_value}
+use Rattle.std.{specs.Arc.arc_value, proofs.lemmas.Result.IfOk-weaker}
 use Rattle.guest_code.specs.Program.{Program}
 use Rattle.walk_items.specs.Items.{root_of}
 use Rattle.runner_report.specs.Promises.{IsReport}

@@ -3,8 +3,7 @@ use Rattle.std.proofs.lemmas.Result.{IfOk-weaker}
 use Rattle.semantics_schedules.specs.Schedules.{preemptions}
 use Rattle.walk_items.specs.Items.{ItemView}
 use Rattle.runner_report.specs.declared.options.Options.{Options}
-use Rattle.runner.specs.Levels.{AreLevels}
-use Rattle.runner.specs.inner.Judging.{Ends}
+use Rattle.runner.specs.{Levels.AreLevels, inner.Judging.Ends}
 use Rattle.runner.proofs.AfterRounds.{course_at, course_itself, ended_at, unquick}
 use Rattle.runner.proofs.Judgments.{past_levels_end}
 use Rattle.runner.proofs.together.explore_under.Goals as goal

@@ -1,10 +1,9 @@
 use Rattle.std.proofs.Common.{◌≡◌, ◌∙◌, ap, sym, subst, refl, true, Option, IfSome}
 use Rattle.walk_items.specs.Items.{ItemView}
-use Rattle.runner.specs.declared.judge.Ending.{Ending}
-use Rattle.runner.specs.inner.Judging.{IsAt, Ends}
-use Rattle.runner_workers.proofs.Teams.{same_workers}
+use Rattle.runner.specs.{declared.judge.Ending.Ending, inner.Judging.{IsAt, Ends}}
 use Rattle.runner.proofs.AfterRounds.{kept_on, ends_weaker}
 use Rattle.runner.proofs.together.search.Goals as goal
+use Rattle.runner_workers.proofs.Teams.{same_workers}
 
 pub returns-in-Some-next-clause-ended : goal.returns-in-Some-next-clause-ended
 returns-in-Some-next-clause-ended g c =

@@ -1,6 +1,5 @@
 use Rattle.std.proofs.Common.{◌≡◌, ◌∙◌, ◌∷◌, ◌++◌, [], true, false, ap, sym, subst, refl, take, arith}
-use Rattle.std.specs.List.{All}
-use Rattle.std.proofs.lemmas.List.{take_more, take_all}
+use Rattle.std.{specs.List.All, proofs.lemmas.List.{take_more, take_all}}
 use Rattle.std.proofs.lemmas.List.Elements.{All-push}
 use Rattle.runner_joining.specs.Parts.{IsTrue}
 use Rattle.runner_joining.proofs.bad_schedules.check_schedules.Goals as goal

@@ -1,10 +1,8 @@
-use Rattle.std.proofs.Common.{◌≡◌, ◌∙◌, ap, sym, subst}
-use Rattle.std.proofs.Common.{unwrap_or}
+use Rattle.std.proofs.Common.{◌≡◌, ◌∙◌, ap, sym, subst, unwrap_or}
 use Rattle.replay.specs.Run.{ReplayErrorMeans}
 use Rattle.semantics_schedules.specs.Schedules.{begins_with}
 use Rattle.walk_cover.proofs.Listed.{starts}
-use Rattle.runner_joining.specs.Parts.{IsTrueOf}
-use Rattle.runner_joining.proofs.Told.{run_bad, bad_run, not_run}
+use Rattle.runner_joining.{specs.Parts.IsTrueOf, proofs.Told.{run_bad, bad_run, not_run}}
 use Rattle.runner_joining.proofs.bad_schedules.is_truthful.Goals as goal
 
 pub returns-then-not-starts_with-clause-value : goal.returns-then-not-starts_with-clause-value

@@ -1,8 +1,6 @@
 use Rattle.std.proofs.Common.{◌≡◌, ◌∙◌, refl, true, ap, sym}
-use Rattle.std.specs.Cmp.{eq_by_cmp_equiv}
-use Rattle.std.specs.declared.cmp.Ordering.{Ordering}
+use Rattle.std.specs.{Cmp.eq_by_cmp_equiv, Ordering.is_eq, declared.cmp.Ordering.Ordering}
 use Rattle.std.specs.declared.cmp.Ordering.TheVariants.{Less, Equal, Greater}
-use Rattle.std.specs.Ordering.{is_eq}
 use Rattle.semantics.specs.View.{view_cmp}
 use Rattle.walk_summary.proofs.SortedViews.{view_total, view_same}
 use Rattle.runner_joining.proofs.by_prefix.same_end.Goals as goal

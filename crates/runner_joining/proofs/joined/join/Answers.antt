@@ -1,12 +1,11 @@
 use Rattle.std.proofs.Common.{◌∙◌, List, sym, subst, rules}
-use Rattle.std.specs.List.{All}
-use Rattle.std.specs.Arc.{arc_value}
+use Rattle.std.specs.{Arc.arc_value, List.All}
 use Rattle.std.proofs.lemmas.Result.{err_from_is_err_and, IfOk-weaker}
 use Rattle.guest_code.specs.Program.{Program}
 use Rattle.walk_cover.specs.CoverBy.{IsCoverBy}
 use Rattle.runner_parts.specs.declared.part.Part.{Part}
-use Rattle.runner_joining.specs.Parts.{IsTrue, AreApart, AreTested, JoinErrorMeans}
-use Rattle.runner_joining.specs.Parts.{last_mode, prefixes_for}
+use Rattle.runner_joining.specs.Parts.{IsTrue, AreApart, AreTested, JoinErrorMeans, last_mode}
+use Rattle.runner_joining.specs.Parts.{prefixes_for}
 use Rattle.runner_joining.proofs.joined.join.Goals as goal
 
 pub returns-in_err-check_schedules-clause-error : goal.returns-in_err-check_schedules-clause-error

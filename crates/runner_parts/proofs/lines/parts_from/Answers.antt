@@ -1,11 +1,10 @@
 use Rattle.std.proofs.Common.{◌≡◌, ◌∙◌, ◌<◌, ◌+◌, ◌++◌, ◌∷◌, [], ap, sym, rules, tests, length, map, take, get_or}
-use Rattle.std.proofs.lemmas.List.{length-append, length-map, map_push}
 use Rattle.std.proofs.lemmas.Iterator.Consumers.{YieldsList-end}
-use Rattle.runner_parts.specs.PartText.{part_view}
-use Rattle.runner_parts.specs.Lines.{lines_of}
+use Rattle.std.proofs.lemmas.List.{length-append, length-map, map_push}
+use Rattle.runner_parts.specs.{Lines.lines_of, PartText.part_view}
 use Rattle.runner_parts.proofs.PartLines.{yields_lines, next_line, next_number, none_left, joined, turned, refused_here}
-use Rattle.runner_parts.proofs.lines.parts_from.Goals as goal
 use Rattle.runner_parts.proofs.lines.parts_from.Goals.{In-Some}
+use Rattle.runner_parts.proofs.lines.parts_from.Goals as goal
 
 -- the lines before that of a turn are those so far, and it is the next one of the text
 next_is : (c : In-Some)

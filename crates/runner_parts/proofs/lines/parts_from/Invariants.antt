@@ -1,7 +1,6 @@
 use Rattle.std.proofs.Common.{◌≡◌, List, All, map, length}
 use Rattle.walk_summary.specs.Summaries.{cut}
-use Rattle.runner_parts.specs.PartText.{PartView, IsPart, part_view}
-use Rattle.runner_parts.specs.Lines.{lines_of, AreLinesOf}
+use Rattle.runner_parts.specs.{Lines.{lines_of, AreLinesOf}, PartText.{PartView, IsPart, part_view}}
 use Rattle.runner_parts.proofs.PartLines.{AreLeft}
 use Rattle.runner_parts.proofs.lines.parts_from.Given as goal
 

@@ -1,10 +1,9 @@
 use Rattle.std.proofs.Common.{◌≡◌, ◌∙◌, ◌++◌, ◌∷◌, [], rules, arith, sym, ap, subst, map, true, false, All, append-nil}
 use Rattle.std.proofs.lemmas.List.{map_push}
-use Rattle.runner_parts.specs.PartText.{IsPart, IsLineOf, part_view}
-use Rattle.runner_parts.specs.Lines.{is_blank}
+use Rattle.runner_parts.specs.{Lines.is_blank, PartText.{IsPart, IsLineOf, part_view}}
 use Rattle.runner_parts.proofs.PartLines.{no_part, its_part, only_blank, only_part}
-use Rattle.runner_parts.proofs.lines.push_unless_blank.Goals as goal
 use Rattle.runner_parts.proofs.lines.push_unless_blank.Goals.{then-not-is_blank+in_ok-part_from+in_ok-push, else-not-is_blank}
+use Rattle.runner_parts.proofs.lines.push_unless_blank.Goals as goal
 
 pub returns-in_err-part_from-clause-reads : goal.returns-in_err-part_from-clause-reads
 returns-in_err-part_from-clause-reads c = λ xs fit lines.

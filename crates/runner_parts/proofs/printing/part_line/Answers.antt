@@ -1,7 +1,6 @@
 use Rattle.std.proofs.Common.{◌≡◌, ◌∙◌, rules, ap}
 use Rattle.std.proofs.lemmas.Result.{IfOk-weaker}
-use Rattle.serde_json.specs.View.{view}
-use Rattle.serde_json.specs.Written.{compact_text}
+use Rattle.serde_json.specs.{View.view, Written.compact_text}
 use Rattle.runner_parts.specs.PartText.{part_data, part_view}
 use Rattle.runner_parts.proofs.PartTexts.{part_whole, part_shallow, both}
 use Rattle.runner_parts.proofs.printing.part_line.Goals as goal

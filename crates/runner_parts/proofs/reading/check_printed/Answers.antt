@@ -1,7 +1,6 @@
 use Rattle.std.proofs.Common.{◌≡◌, ◌∙◌, rules, sym, ap}
 use Rattle.serde_json.specs.Written.{compact_text}
-use Rattle.runner_parts.specs.PartText.{part_view}
-use Rattle.runner_parts.proofs.PartTexts.{part_whole}
+use Rattle.runner_parts.{specs.PartText.part_view, proofs.PartTexts.part_whole}
 use Rattle.runner_parts.proofs.reading.check_printed.Goals as goal
 
 pub returns-clause-refused : goal.returns-clause-refused

@@ -1,7 +1,6 @@
 use Rattle.std.proofs.Common.{◌≡◌, rules, ap, codes}
 use Rattle.runner_report.specs.ReportText.{kind_data, values_data}
-use Rattle.serde_json.specs.Find.{get}
-use Rattle.serde_json.specs.View.{view}
+use Rattle.serde_json.specs.{Find.get, View.view}
 use Rattle.runner_parts.proofs.reading.end_of.Goals as goal
 
 pub returns-in_err-field : goal.returns-in_err-field

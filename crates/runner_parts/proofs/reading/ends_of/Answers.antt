@@ -1,7 +1,6 @@
 use Rattle.std.proofs.Common.{◌≡◌, rules, arith, map, get_or, []}
 use Rattle.std.proofs.lemmas.List.{take_more, take_all}
-use Rattle.semantics.specs.View.{View}
-use Rattle.semantics.specs.declared.view.Kind.TheVariants.{Done}
+use Rattle.semantics.specs.{View.View, declared.view.Kind.TheVariants.Done}
 use Rattle.serde_json.specs.View.{view, items_of, items_view}
 use Rattle.runner_report.specs.ReportText.{end_data}
 use Rattle.runner_parts.proofs.ReadLists.{items_same, as_long, item_at}

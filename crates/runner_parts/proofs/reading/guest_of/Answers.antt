@@ -1,7 +1,6 @@
 use Rattle.std.proofs.Common.{◌≡◌, rules, ap, codes}
 use Rattle.runner_report.specs.ReportText.{count_data}
-use Rattle.serde_json.specs.Data.{string}
-use Rattle.serde_json.specs.Find.{get}
+use Rattle.serde_json.specs.{Data.string, Find.get}
 use Rattle.hex.specs.Hex.{encode_lower}
 use Rattle.runner_parts.proofs.Digests.{digest_read}
 use Rattle.runner_parts.proofs.reading.guest_of.Goals as goal

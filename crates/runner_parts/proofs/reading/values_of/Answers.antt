@@ -1,8 +1,6 @@
 use Rattle.std.proofs.Common.{◌≡◌, rules, arith, ℤ, pos, map, get_or, ◌<◌, length}
 use Rattle.std.proofs.lemmas.List.{take_more, take_all}
-use Rattle.serde_json.specs.Data.{number}
-use Rattle.serde_json.specs.Find.{of_integer}
-use Rattle.serde_json.specs.View.{items_of, items_view}
+use Rattle.serde_json.specs.{Data.number, Find.of_integer, View.{items_of, items_view}}
 use Rattle.runner_parts.proofs.ReadLists.{items_same, as_long, item_at, integer_read}
 use Rattle.runner_parts.proofs.reading.values_of.Goals as goal
 

@@ -1,8 +1,6 @@
 use Rattle.std.proofs.Common.{◌≡◌, ℤ, List, All, FitsSigned, map, take}
 use Rattle.std.specs.Int.{w64}
-use Rattle.serde_json.specs.Data.{number}
-use Rattle.serde_json.specs.Find.{of_integer}
-use Rattle.serde_json.specs.View.{view}
+use Rattle.serde_json.specs.{Data.number, Find.of_integer, View.view}
 use Rattle.runner_parts.proofs.reading.values_of.Given as goal
 
 abbrev pub invariant-loop-item : goal.invariant-loop-item

@@ -1,7 +1,5 @@
 use Rattle.std.proofs.Common.{◌≡◌, map, take, ℤ}
-use Rattle.serde_json.specs.Data.{number}
-use Rattle.serde_json.specs.Find.{of_integer}
-use Rattle.serde_json.specs.View.{view}
+use Rattle.serde_json.specs.{Data.number, Find.of_integer, View.view}
 use Rattle.runner_report.proofs.printing.vars_value.Given as goal
 
 abbrev pub invariant-loop-value : goal.invariant-loop-value

@@ -1,9 +1,7 @@
 use Rattle.std.proofs.Common.{rules, tests, arith, ◌≡◌, ◌<◌, ℕ, Bool, true, false, List, [], ◌∷◌, length, get_or, MatchBool}
 use Rattle.std.specs.List.{Any, HoldsAt}
-use Rattle.std.proofs.lemmas.List.{get_or_default}
-use Rattle.std.proofs.lemmas.Iterator.{cases_from_any, YieldsList-from_slice}
-use Rattle.runner_workers.specs.declared.exit.Exit.{Exit}
-use Rattle.runner_workers.specs.declared.exit.Exit.TheVariants.{Stopped, OutOfMemory}
+use Rattle.std.proofs.lemmas.{Iterator.{cases_from_any, YieldsList-from_slice}, List.get_or_default}
+use Rattle.runner_workers.specs.declared.exit.Exit.{Exit, TheVariants.{Stopped, OutOfMemory}}
 use Rattle.runner_workers.specs.declared.seated_worker.SeatedWorker.{SeatedWorker}
 use Rattle.runner_workers.proofs.seated_worker.exit_of.Goals as goal
 

@@ -1,8 +1,7 @@
+use Rattle.std.specs.Prelude.{All}
 use Rattle.std.proofs.Common.{arith, ◌≤◌, sym, subst}
 use Rattle.std.proofs.lemmas.List.Elements.{All-push}
-use Rattle.std.specs.Prelude.{All}
-use Rattle.guest_code.specs.declared.limits.TheConstants.{COUNT}
-use Rattle.guest_code.specs.Program.{no_semaphore}
+use Rattle.guest_code.specs.{Program.no_semaphore, declared.limits.TheConstants.COUNT}
 use Rattle.semantics.proofs.ListsBuiltInLoops.{built_more, built_all}
 use Rattle.semantics.proofs.initial.initial_counts.Goals as goal
 

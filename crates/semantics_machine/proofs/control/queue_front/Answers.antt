@@ -1,6 +1,5 @@
 use Rattle.std.proofs.Common.{◌∙◌, ap, rules}
-use Rattle.std.specs.Int.{cast_unsigned, w64}
-use Rattle.std.proofs.lemmas.Int.{to_z-of_z}
+use Rattle.std.{specs.Int.{cast_unsigned, w64}, proofs.lemmas.Int.to_z-of_z}
 use Rattle.semantics_machine.proofs.Queues.{queued_first}
 use Rattle.semantics_machine.proofs.control.queue_front.Goals as goal
 

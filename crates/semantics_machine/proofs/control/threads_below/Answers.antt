@@ -1,8 +1,6 @@
 use Rattle.std.proofs.Common.{arith, ◌≡◌, ◌≢◌, ◌+◌, ◌∙◌, nat_lt, true, false, ap, sym, inl, inr}
-use Rattle.std.proofs.lemmas.Bool.{cases_order}
-use Rattle.std.proofs.lemmas.Bool.Decides.{nat_tests}
-use Rattle.semantics.specs.Mask.{has}
-use Rattle.semantics.proofs.Masks.{empty_has}
+use Rattle.std.proofs.lemmas.Bool.{cases_order, Decides.nat_tests}
+use Rattle.semantics.{specs.Mask.has, proofs.Masks.empty_has}
 use Rattle.semantics_machine.proofs.control.threads_below.Goals as goal
 
 pub loop-t-init : goal.loop-t-init

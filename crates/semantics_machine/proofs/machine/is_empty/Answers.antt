@@ -1,9 +1,7 @@
-use Rattle.std.proofs.Common.{rules, arith, ◌≡◌, ◌∙◌, ◌+◌, ◌∷◌, [], Option, not, ap, ◌<◌, ◌^◌, ℕ, false, Some, None, inl, inr}
-use Rattle.std.proofs.lemmas.Bool.{cases_lt}
 use Rattle.std.specs.Prelude.{MatchOption}
-use Rattle.std.specs.Option.{is_some}
-use Rattle.semantics.specs.declared.mask.Mask.{Mask}
-use Rattle.semantics.specs.Mask.{members_from}
+use Rattle.std.proofs.Common.{rules, arith, ◌≡◌, ◌∙◌, ◌+◌, ◌∷◌, [], Option, not, ap, ◌<◌, ◌^◌, ℕ, false, Some, None, inl, inr}
+use Rattle.std.{specs.Option.is_some, proofs.lemmas.Bool.cases_lt}
+use Rattle.semantics.specs.{Mask.members_from, declared.mask.Mask.Mask}
 use Rattle.semantics.proofs.Masks.{none_left, has-above}
 use Rattle.semantics_machine.proofs.machine.is_empty.Goals as goal
 

@@ -1,6 +1,5 @@
 use Rattle.std.proofs.Common.{◌<◌, ◌≤◌, ℕ, length, get_or}
-use Rattle.guest_code.specs.declared.limits.TheConstants.{LOCALS}
-use Rattle.guest_code.specs.Program.{Thread as CodeThread}
+use Rattle.guest_code.specs.{Program.Thread as CodeThread, declared.limits.TheConstants.LOCALS}
 use Rattle.semantics_machine.proofs.machine.most_locals.Given as goal
 
 abbrev pub invariant-loop-t : goal.invariant-loop-t

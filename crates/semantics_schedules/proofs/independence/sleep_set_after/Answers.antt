@@ -1,11 +1,9 @@
 use Rattle.std.proofs.Common.{◌≡◌, ◌≢◌, ◌&&◌, ◌||◌, not, nat_lt, nat_eq, ◌∙◌, arith, below_more, sym, ap, rules, inl, inr, refl, ℕ, Bool, true, false}
 use Rattle.std.proofs.lemmas.Bool.{cases_lt}
 use Rattle.guest_code.specs.Program.{Program}
-use Rattle.semantics.specs.declared.mask.Mask.{Mask}
-use Rattle.semantics.specs.Machine.{Snapshot, is_enabled, next_of}
-use Rattle.semantics.specs.Mask.{has}
+use Rattle.semantics.specs.{Machine.{Snapshot, is_enabled, next_of}, Mask.has}
+use Rattle.semantics.{specs.declared.mask.Mask.Mask, proofs.Masks.{is_mask_of, none_left}}
 use Rattle.semantics_schedules.specs.Sleep.{apart, independent, next_sleep_set}
-use Rattle.semantics.proofs.Masks.{is_mask_of, none_left}
 use Rattle.semantics_schedules.proofs.independence.sleep_set_after.Goals.{then-is_tried_before, else-is_tried_before, then-tried, else-tried}
 use Rattle.semantics_schedules.proofs.independence.sleep_set_after.Goals as goal
 

@@ -1,8 +1,6 @@
 use Rattle.std.proofs.Common.{◌≡◌, ◌<◌, ◌≤◌, [], ap, ◌∙◌, sym, subst}
-use Rattle.walk_items.specs.Items.{ItemView}
-use Rattle.walk_items.specs.Walks.{WalkView, IsWalked}
-use Rattle.walk.specs.Founds.{found_walk}
-use Rattle.walk.proofs.Walks.{alone_added}
+use Rattle.walk_items.specs.{Items.ItemView, Walks.{WalkView, IsWalked}}
+use Rattle.walk.{specs.Founds.found_walk, proofs.Walks.alone_added}
 use Rattle.walk.proofs.walker.walk.Goals as goal
 
 pub new-requires : goal.new-requires

@@ -1,19 +1,12 @@
+use Rattle.std.specs.Prelude.{Result, Ok, MatchResult, IfSome, IfNone}
 use Rattle.std.proofs.Common.{◌≡◌, List, ℕ, sym, subst, ap, map, All, Contains}
+use Rattle.std.specs.{Arc.arc_value, declared.alloc.Global.Global, declared.vec.Vec.Vec}
 use denote.Ref.{Bor}
-use Rattle.std.specs.declared.alloc.Global.{Global}
-use Rattle.std.specs.declared.vec.Vec.{Vec}
-use Rattle.std.specs.Prelude.{Result, Ok}
-use Rattle.walk_items.specs.declared.mode.Mode.{Mode}
-use Rattle.std.specs.Arc.{arc_value}
-use Rattle.std.specs.Prelude.{MatchResult, IfSome, IfNone}
+use Rattle.walk_items.specs.{Items.ItemView, declared.mode.Mode.Mode}
 use Rattle.guest_code.specs.Program.{Program}
-use Rattle.semantics.specs.Waiters.{In}
-use Rattle.semantics.proofs.ListMembers.{contains_in, from_map}
-use Rattle.walk_items.specs.Items.{ItemView}
-use Rattle.walk_cover.specs.CoverBy.{CoverErrorMeans}
-use Rattle.walk_cover.specs.inner.Reached.{IsReached, IsBare}
-use Rattle.walk_cover.proofs.Listed.{all_in}
-use Rattle.walk_cover.proofs.Covered.{reached_cover}
+use Rattle.semantics.{specs.Waiters.In, proofs.ListMembers.{contains_in, from_map}}
+use Rattle.walk_cover.specs.{CoverBy.CoverErrorMeans, inner.Reached.{IsReached, IsBare}}
+use Rattle.walk_cover.proofs.{Covered.reached_cover, Listed.all_in}
 use Rattle.walk_cover.proofs.covering.cover_by.Goals as goal
 
 -- what was reached, of the program itself

@@ -1,8 +1,5 @@
-use Rattle.std.specs.Ordering.{nat_cmp}
-use Rattle.std.specs.Cmp.Lexicographic.{slice_cmp}
-use Rattle.std.specs.BTreeSet.{IsFromIterResult}
-use Rattle.std.proofs.lemmas.Iterator.{YieldsList-from_slice}
-use Rattle.std.proofs.lemmas.Iterator.Adapters.{fact_from_collect}
+use Rattle.std.specs.{BTreeSet.IsFromIterResult, Cmp.Lexicographic.slice_cmp, Ordering.nat_cmp}
+use Rattle.std.proofs.lemmas.Iterator.{YieldsList-from_slice, Adapters.fact_from_collect}
 use Rattle.std.proofs.lemmas.Iterator.Consumers.{YieldsList-from_copied, YieldsList-at}
 use Rattle.walk_cover.proofs.covering.prefix_set.Goals as goal
 

@@ -1,10 +1,9 @@
 use Rattle.std.proofs.Common.{◌≡◌, ◌∙◌, false, sym, subst, map, take, ap, length, arith}
 use Rattle.std.proofs.lemmas.List.{take_all}
 use Rattle.semantics_schedules.specs.Schedules.{begins_with}
-use Rattle.semantics.specs.Waiters.{In}
-use Rattle.semantics.proofs.ListMembers.{in_map}
-use Rattle.walk_cover.proofs.Listed.{all_off, all_values, found_in, none_found}
+use Rattle.semantics.{specs.Waiters.In, proofs.ListMembers.in_map}
 use Rattle.walk_cover.proofs.Covered.{bare_missing, longer_unused}
+use Rattle.walk_cover.proofs.Listed.{all_off, all_values, found_in, none_found}
 use Rattle.walk_cover.proofs.covering.uncovered_error.Goals as goal
 
 pub returns-then-not-any_begins_with : goal.returns-then-not-any_begins_with

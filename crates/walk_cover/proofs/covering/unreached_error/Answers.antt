@@ -1,13 +1,10 @@
 use Rattle.std.proofs.Common.{◌∙◌, List, [], ℕ, sym, subst, ap, map, take, get_or, arith}
-use denote.Ref.{Bor}
-use Rattle.std.specs.List.{All, Contains}
-use Rattle.std.proofs.lemmas.List.{take_more, take_all}
+use Rattle.std.{specs.List.{All, Contains}, proofs.lemmas.List.{take_more, take_all}}
 use Rattle.std.proofs.lemmas.List.Elements.{All-push}
-use Rattle.semantics.specs.Waiters.{In}
-use Rattle.semantics.proofs.ListMembers.{in_contains, in_map, at_in}
+use denote.Ref.{Bor}
+use Rattle.semantics.{specs.Waiters.In, proofs.ListMembers.{in_contains, in_map, at_in}}
 use Rattle.walk_items.specs.Items.{ItemView}
-use Rattle.walk_cover.proofs.Listed.{set_keys, key_listed, key_off}
-use Rattle.walk_cover.proofs.Covered.{other_means}
+use Rattle.walk_cover.proofs.{Covered.other_means, Listed.{set_keys, key_listed, key_off}}
 use Rattle.walk_cover.proofs.covering.unreached_error.Goals as goal
 
 -- no prefix

@@ -2,10 +2,8 @@ use Rattle.std.proofs.Common.{inr, subst, sym, arith, All}
 use Rattle.std.specs.Arc.{arc_value}
 use Rattle.guest_code.specs.Program.{IsWellFormed}
 use Rattle.walk_items.specs.Items.{root_of}
-use Rattle.walk_cover.specs.Covers.{IsCover}
-use Rattle.walk_cover.specs.Prefixes.{IsComplete}
-use Rattle.walk_cover.proofs.Covers.{prefixes_cover}
-use Rattle.walk_cover.proofs.Steps.{last_list, list_cover, all_complete}
+use Rattle.walk_cover.specs.{Covers.IsCover, Prefixes.IsComplete}
+use Rattle.walk_cover.proofs.{Covers.prefixes_cover, Steps.{last_list, list_cover, all_complete}}
 use Rattle.walk_cover.proofs.listing.prefixes.Goals as goal
 
 pub returns-then-len-at_least-clause-cover : goal.returns-then-len-at_least-clause-cover

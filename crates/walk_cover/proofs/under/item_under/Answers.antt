@@ -1,8 +1,7 @@
 use Rattle.std.proofs.Common.{sym, subst}
 use Rattle.std.specs.Arc.{arc_value}
 use Rattle.walk_items.specs.declared.mode.Mode.{Mode}
-use Rattle.walk_cover.specs.Under.{IsUnder}
-use Rattle.walk_cover.proofs.Asleep.{bounded_under}
+use Rattle.walk_cover.{specs.Under.IsUnder, proofs.Asleep.bounded_under}
 use Rattle.walk_cover.proofs.under.item_under.Goals as goal
 
 pub returns-in-Bounded-clause-value : goal.returns-in-Bounded-clause-value

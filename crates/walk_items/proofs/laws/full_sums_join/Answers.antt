@@ -1,7 +1,5 @@
 use Rattle.std.proofs.Common.{subst}
-use Rattle.walk_items.specs.declared.mode.Mode.{Mode}
-use Rattle.walk_items.specs.Walks.{IsSplit}
-use Rattle.walk_items.proofs.Splits.{split_full}
+use Rattle.walk_items.{specs.Walks.IsSplit, specs.declared.mode.Mode.Mode, proofs.Splits.split_full}
 use Rattle.walk_items.proofs.laws.full_sums_join.Goals as goal
 
 pub returns : goal.returns

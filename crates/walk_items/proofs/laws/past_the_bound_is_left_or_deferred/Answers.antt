@@ -1,6 +1,5 @@
 use Rattle.std.proofs.Common.{subst}
-use Rattle.walk_items.specs.declared.mode.Mode.{Mode}
-use Rattle.walk_items.specs.Walks.{IsCut, IsSplit}
+use Rattle.walk_items.specs.{Walks.{IsCut, IsSplit}, declared.mode.Mode.Mode}
 use Rattle.walk_items.proofs.Splits.{split_past}
 use Rattle.walk_items.proofs.laws.past_the_bound_is_left_or_deferred.Goals as goal
 

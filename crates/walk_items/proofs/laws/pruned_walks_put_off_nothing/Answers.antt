@@ -1,9 +1,6 @@
 use Rattle.std.proofs.Common.{◌≡◌, false, ◌||◌, ap, sym, subst, ◌∙◌}
-use Rattle.std.specs.List.{list_any}
-use Rattle.std.proofs.lemmas.Bool.{or_parts}
-use Rattle.walk_items.specs.declared.mode.Mode.{Mode}
-use Rattle.walk_items.specs.Items.{goes_beyond}
-use Rattle.walk_items.specs.Walks.{IsCut}
+use Rattle.std.{specs.List.list_any, proofs.lemmas.Bool.or_parts}
+use Rattle.walk_items.specs.{Items.goes_beyond, Walks.IsCut, declared.mode.Mode.Mode}
 use Rattle.walk_items.proofs.laws.pruned_walks_put_off_nothing.Goals as goal
 
 pub returns-clause-deferred : goal.returns-clause-deferred

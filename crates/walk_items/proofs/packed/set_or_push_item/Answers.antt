@@ -1,11 +1,9 @@
 use Rattle.std.proofs.Common.{rules, arith, ◌≡◌, ◌∙◌, ◌<◌, ◌≤◌, ◌+◌, ◌++◌, ◌∷◌, [], List, ap, sym, take, length}
-use Rattle.std.specs.Arc.{arc_value}
-use Rattle.std.proofs.lemmas.List.{take_all, take_more_set}
+use Rattle.std.{specs.Arc.arc_value, proofs.lemmas.List.{take_all, take_more_set}}
 use Rattle.std.proofs.lemmas.Result.{on_ok_weaker}
-use Rattle.walk_items.specs.Items.{ItemView, item_at}
-use Rattle.walk_prefixes.specs.PrefixLists.{last_of}
-use Rattle.walk_items.proofs.LastItems.{last_is, last_item_runs}
+use Rattle.walk_items.{specs.Items.{ItemView, item_at}, proofs.LastItems.{last_is, last_item_runs}}
 use Rattle.walk_items.proofs.packed.set_or_push_item.Goals as goal
+use Rattle.walk_prefixes.specs.PrefixLists.{last_of}
 
 pub returns-then-place-len-clause-items : goal.returns-then-place-len-clause-items
 returns-then-place-len-clause-items c =

@@ -1,7 +1,6 @@
 use Rattle.std.proofs.Common.{◌≡◌, ◌≤◌, ◌+◌, ◌++◌, length, reverse, take}
 use Rattle.std.specs.Arc.{arc_value}
-use Rattle.walk_items.specs.Items.{AreOf}
-use Rattle.walk_items.specs.Walks.{items_at}
+use Rattle.walk_items.specs.{Items.AreOf, Walks.items_at}
 use Rattle.walk_items.proofs.packed.unpack_last_into.Given as goal
 
 abbrev pub invariant-loop-place : goal.invariant-loop-place

@@ -1,7 +1,6 @@
 use Rattle.std.proofs.Common.{length, sym, ◌∙◌, arith}
+use Rattle.std.proofs.lemmas.{Bool.eqb-true, List.get_or_past}
 use Rattle.walk_prefixes.specs.inner.Packed.{head_of}
-use Rattle.std.proofs.lemmas.List.{get_or_past}
-use Rattle.std.proofs.lemmas.Bool.{eqb-true}
 use Rattle.walk_prefixes.proofs.bytes.last_byte.Goals as goal
 
 pub returns-then-is_empty : goal.returns-then-is_empty

@@ -1,6 +1,5 @@
 use Rattle.std.proofs.Common.{rules}
-use Rattle.std.proofs.lemmas.Fn.{always_returns_same}
-use Rattle.std.specs.Ordering.{is_lt}
+use Rattle.std.{specs.Ordering.is_lt, proofs.lemmas.Fn.always_returns_same}
 use Rattle.semantics.specs.View.{view_cmp}
 use Rattle.walk_summary.proofs.SortedViews.{sorted_answer}
 use Rattle.walk_summary.proofs.summary.are_sorted.Goals as goal

@@ -1,8 +1,7 @@
 use Rattle.std.proofs.Common.{◌≡◌, ◌∙◌, sym, ap, rules}
 use Rattle.std.specs.Cmp.Rules.{signed_items}
 use Rattle.semantics.specs.contracts.view.Kind as kind-type
-use Rattle.walk_summary.specs.Summaries.{end_with}
-use Rattle.walk_summary.proofs.SortedViews.{with_view_there}
+use Rattle.walk_summary.{specs.Summaries.end_with, proofs.SortedViews.with_view_there}
 use Rattle.walk_summary.proofs.summary.is_view_at.Goals as goal
 use denote.Enum.Bare.{same_true}
 

@@ -1,6 +1,5 @@
 use Rattle.std.proofs.Common.{◌≡◌, ◌++◌, ◌∙◌, [], Err, IsOk, Ok, Result, ap, arith, cond, is_ok, subst, sym}
-use Rattle.std.proofs.lemmas.List.{nil_from_length}
-use Rattle.std.specs.List.Sorted.{IsStrictlySortedBy}
+use Rattle.std.{specs.List.Sorted.IsStrictlySortedBy, proofs.lemmas.List.nil_from_length}
 use Rattle.semantics.specs.View.{view_cmp}
 use Rattle.walk_summary.specs.Summaries.{with_view, sorted_views}
 use Rattle.walk_summary.proofs.SortedViews.{with_view-sorted, sorted_views-alone, sorted_views-moved}

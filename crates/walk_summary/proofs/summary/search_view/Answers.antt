@@ -1,7 +1,6 @@
 use Rattle.std.proofs.Common.{rules}
 use Rattle.std.proofs.lemmas.Fn.{always_returns_same}
-use Rattle.walk_summary.specs.Summaries.{end_with}
-use Rattle.walk_summary.proofs.EndSearch.{searched, seen_from}
+use Rattle.walk_summary.{specs.Summaries.end_with, proofs.EndSearch.{searched, seen_from}}
 use Rattle.walk_summary.proofs.summary.search_view.Goals as goal
 
 pub returns : goal.returns

@@ -1,10 +1,8 @@
 use Rattle.std.proofs.Common.{rules, ◌≡◌, ℕ, [], vec_len, ap, sym, ◌∙◌, arith, if◌then◌else◌}
-use Rattle.board.specs.Board.{SeatView, BoardView, BoardId}
-use Rattle.board.specs.Claims.{times}
-use Rattle.board.specs.inner.Rule.{Mine}
-use Rattle.board.proofs.Sums.{sum_by-popped, All-popped, times-append}
-use Rattle.board.proofs.Steps.{joining, counting, closing}
+use Rattle.board.specs.{Board.{SeatView, BoardView, BoardId}, Claims.times, inner.Rule.Mine}
 use Rattle.board.proofs.Gathered.{all_of, count_is, each_drawn, least_told, each_answered}
+use Rattle.board.proofs.Steps.{joining, counting, closing}
+use Rattle.board.proofs.Sums.{sum_by-popped, All-popped, times-append}
 use Rattle.board.proofs.board.Board.gather.Goals as goal
 
 abbrev mark_of : SeatView → ℕ

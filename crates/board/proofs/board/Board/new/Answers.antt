@@ -1,8 +1,6 @@
 use Rattle.std.proofs.Common.{rules, ◌≡◌, refl, ap, ◌∙◌, false, arith}
 use Rattle.std.proofs.lemmas.List.Elements.{All-push, All-same}
-use Rattle.board.specs.Board.{SeatView, new_seat}
-use Rattle.board.specs.inner.Rule.{Mine}
-use Rattle.board.proofs.Steps.{splitting}
+use Rattle.board.{specs.Board.{SeatView, new_seat}, specs.inner.Rule.Mine, proofs.Steps.splitting}
 use Rattle.board.proofs.board.Board.new.Goals as goal
 
 pub split_seat-inner-requires : goal.split_seat-inner-requires

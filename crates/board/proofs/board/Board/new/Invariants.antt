@@ -1,7 +1,6 @@
 use Rattle.std.proofs.Common.{◌≡◌, ◌-◌, [], length}
 use Rattle.std.specs.List.{All}
-use Rattle.board.specs.Board.{new_seat}
-use Rattle.board.specs.inner.Rule.{account}
+use Rattle.board.specs.{Board.new_seat, inner.Rule.account}
 use Rattle.board.proofs.board.Board.new.Given as goal
 
 -- the root has the seats that are still to be made

@@ -1,6 +1,5 @@
 use Rattle.std.proofs.Common.{refl}
-use Rattle.book.proofs.BookFields.{book_of}
-use Rattle.book.proofs.OpenItems.{deferred_run, run_of}
+use Rattle.book.proofs.{BookFields.book_of, OpenItems.{deferred_run, run_of}}
 use Rattle.book.proofs.books.Book.deferred_item.Goals as goal
 
 pub item-requires-clause-run : goal.item-requires-clause-run

@@ -1,7 +1,6 @@
 use Rattle.std.proofs.Common.{ap, sym, subst}
 use Rattle.walk_items.specs.Items.{AreOf}
-use Rattle.book.specs.ItemLists.{all_of}
-use Rattle.book.proofs.BookFields.{book_of}
+use Rattle.book.{specs.ItemLists.all_of, proofs.BookFields.book_of}
 use Rattle.book.proofs.OpenItems.{open_run, unpacked_own, run_of}
 use Rattle.book.proofs.books.Book.next_round.Goals as goal
 

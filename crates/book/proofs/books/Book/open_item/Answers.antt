@@ -1,6 +1,5 @@
 use Rattle.std.proofs.Common.{refl}
-use Rattle.book.proofs.BookFields.{book_of}
-use Rattle.book.proofs.OpenItems.{open_run, run_of}
+use Rattle.book.proofs.{BookFields.book_of, OpenItems.{open_run, run_of}}
 use Rattle.book.proofs.books.Book.open_item.Goals as goal
 
 pub item-requires-clause-run : goal.item-requires-clause-run

@@ -1,18 +1,12 @@
 use Rattle.std.proofs.Common.{◌≡◌, ◌≤◌, ◌<◌, ◌∙◌, ℕ, List, [], length, slice_get, Some, refl, ap, sym, subst, arith}
-use Rattle.std.specs.List.{remove}
-use Rattle.std.proofs.lemmas.List.Elements.{All-nil, All-cons}
+use Rattle.std.{specs.List.remove, proofs.lemmas.List.Elements.{All-nil, All-cons}}
 use Rattle.guest_code.specs.Program.{Program}
-use Rattle.walk_items.specs.Items.{ItemView, AreOf}
-use Rattle.walk_items.specs.Walks.{WalkView}
+use Rattle.walk_items.specs.{Items.{ItemView, AreOf}, Walks.WalkView}
 use Rattle.walk.specs.Founds.{found_walk}
-use Rattle.book.specs.ItemLists.{all_of}
-use Rattle.book.specs.Books.{BookView, Keeps, IsOpenAt, settled, taken_in}
-use Rattle.book.proofs.BookFields.{book_of}
-use Rattle.book.proofs.OpenItems.{unpacked_own}
-use Rattle.book.proofs.TakenOver.{settled_by_found}
-use Rattle.book.proofs.Thinned.{settles_any}
+use Rattle.book.specs.{Books.{BookView, Keeps, IsOpenAt, settled, taken_in}, ItemLists.all_of}
+use Rattle.book.proofs.{BookFields.book_of, OpenItems.unpacked_own, TakenOver.settled_by_found}
+use Rattle.book.proofs.{Thinned.settles_any, books.Book.settle.Goals.{After-item-1, In-Some}}
 use Rattle.book.proofs.books.Book.settle.Goals as goal
-use Rattle.book.proofs.books.Book.settle.Goals.{After-item-1, In-Some}
 
 -- the walk is of the book's program and mode
 own : (c : After-item-1) → c.args.self.now.of.program ≡ c.args.walked.item.program

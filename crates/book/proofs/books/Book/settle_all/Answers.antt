@@ -1,13 +1,11 @@
 use Rattle.std.proofs.Common.{rules, ◌≡◌, ◌∙◌, false, not, ◌&&◌, refl, ap, sym, subst, IfSome, IfNone, inl, inr}
 use Rattle.walk_items.specs.Items.{AreOf}
-use Rattle.book.specs.ItemLists.{all_of}
 use Rattle.book.specs.Books.{BookView, Keeps, AreWithin, AreOpenAt, StandInOrder, HaveSettled, taken_in, remove_each}
-use Rattle.book.proofs.BookFields.{book_of}
-use Rattle.book.proofs.Lists.{open_within}
+use Rattle.book.{specs.ItemLists.all_of, proofs.BookFields.book_of}
+use Rattle.book.proofs.{Gathered.{walked_within, settled_together}, Lists.open_within}
 use Rattle.book.proofs.OpenItems.{open_run, unpacked_own, run_of, same_of}
-use Rattle.book.proofs.Gathered.{walked_within, settled_together}
-use Rattle.book.proofs.books.Book.settle_all.Goals as goal
 use Rattle.book.proofs.books.Book.settle_all.Goals.{After-as_slice}
+use Rattle.book.proofs.books.Book.settle_all.Goals as goal
 
 pub unpack_and_find-requires-clause-places : goal.unpack_and_find-requires-clause-places
 unpack_and_find-requires-clause-places c =

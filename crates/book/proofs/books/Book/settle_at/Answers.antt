@@ -1,20 +1,14 @@
-use Rattle.std.proofs.Common.{refl, ◌≡◌, ◌∙◌, ◌++◌, ◌≤◌, sym, ap, subst, arith, length}
-use Rattle.std.proofs.Common.{◌&&◌}
-use Rattle.std.specs.List.{All}
-use Rattle.std.proofs.lemmas.List.Elements.{All-weaker}
-use Rattle.walk_items.specs.Items.{IsItem}
-use Rattle.walk_items.specs.Walks.{items_at, listed_if}
-use Rattle.walk_items.proofs.Listed.{listed_items}
-use Rattle.walk_items.proofs.ListParts.{all_right}
-use Rattle.book.specs.ItemLists.{all_of}
+use Rattle.std.proofs.Common.{refl, ◌≡◌, ◌∙◌, ◌++◌, ◌≤◌, sym, ap, subst, arith, length, ◌&&◌}
+use Rattle.std.{specs.List.All, proofs.lemmas.List.Elements.All-weaker}
+use Rattle.walk_items.specs.{Items.IsItem, Walks.{items_at, listed_if}}
+use Rattle.walk_items.proofs.{ListParts.all_right, Listed.listed_items}
 use Rattle.book.specs.Books.{BookView, Keeps, IsSwept, taken_in, remove_each, AreWithin}
-use Rattle.book.proofs.BookFields.{book_of}
-use Rattle.book.proofs.Lists.{within_more}
+use Rattle.book.{specs.ItemLists.all_of, proofs.BookFields.book_of, proofs.Lists.within_more}
+use Rattle.book.proofs.OpenItems.{open_run, waiting_run, run_of, same_of, more_of}
 use Rattle.book.proofs.Swept.{taken_swept}
 use Rattle.book.proofs.TakenOver.{grown, still_there, open_taken, taken_back, same_book}
-use Rattle.book.proofs.OpenItems.{open_run, waiting_run, run_of, same_of, more_of}
-use Rattle.book.proofs.books.Book.settle_at.Goals as goal
 use Rattle.book.proofs.books.Book.settle_at.Goals.{After-drop-none-inside-in-Err-2, After-drop-none-inside-3}
+use Rattle.book.proofs.books.Book.settle_at.Goals as goal
 
 pub unpack_from-requires : goal.unpack_from-requires
 unpack_from-requires c =

@@ -2,12 +2,10 @@ use Rattle.std.proofs.Common.{◌≡◌, ◌≤◌, ◌+◌, ◌-◌, ◌∙◌,
 use Rattle.std.proofs.lemmas.List.Elements.{All-weaker, All-take, All-replicate}
 use Rattle.walk_items.specs.Items.{ItemView}
 use Rattle.book.specs.Books.{BookView, Keeps, AreWithin, HasWalkedRound, taken_in, remove_each}
-use Rattle.book.proofs.BookFields.{book_of}
-use Rattle.book.proofs.OpenItems.{same_of, open_run, run_of}
-use Rattle.book.proofs.TakenOver.{on_settled}
+use Rattle.book.proofs.{BookFields.book_of, OpenItems.{same_of, open_run, run_of}}
 use Rattle.book.proofs.Rounds.{IsFoundFrom, open_at, at_end, added_tried, round_begins, round_goes_on, round_settles}
+use Rattle.book.proofs.{TakenOver.on_settled, books.Book.walk_round.Goals.After-loop-place}
 use Rattle.book.proofs.books.Book.walk_round.Goals as goal
-use Rattle.book.proofs.books.Book.walk_round.Goals.{After-loop-place}
 
 pub loop-place-init : goal.loop-place-init
 loop-place-init c =

@@ -1,9 +1,7 @@
 use Rattle.std.proofs.Common.{rules, ◌≡◌, ◌∙◌, [], false, ap, arith}
 use Rattle.walk_items.specs.Items.{item_sum}
 use Rattle.book.specs.Books.{BookView}
-use Rattle.book.proofs.BookFields.{book_of}
-use Rattle.book.proofs.BoundedSums.{closed_sum, never_dropped}
-use Rattle.book.proofs.Lists.{no_items}
+use Rattle.book.proofs.{BookFields.book_of, BoundedSums.{closed_sum, never_dropped}, Lists.no_items}
 use Rattle.book.proofs.books.Book.whole_summary.Goals as goal
 
 pub returns-then-len-eq0-clause-whole : goal.returns-then-len-eq0-clause-whole

@@ -1,10 +1,7 @@
 use Rattle.std.proofs.Common.{◌≡◌, ◌-◌, ◌∙◌, ◌++◌, ap, subst, arith, length, drop, sym, min, List, OnOk}
-use Rattle.std.specs.Arc.{arc_value}
-use Rattle.std.proofs.lemmas.List.{length-map}
-use Rattle.walk_items.specs.Items.{ItemView, AreOf, item_at}
-use Rattle.walk_items.specs.Walks.{items_at}
-use Rattle.book.specs.ItemLists.{ListView, all_of}
-use Rattle.book.proofs.PackedItems.{last_of_both}
+use Rattle.std.{specs.Arc.arc_value, proofs.lemmas.List.length-map}
+use Rattle.walk_items.specs.{Items.{ItemView, AreOf, item_at}, Walks.items_at}
+use Rattle.book.{specs.ItemLists.{ListView, all_of}, proofs.PackedItems.last_of_both}
 use Rattle.book.proofs.item_list.ItemList.clone_last_into.Goals as goal
 
 pub returns-clause-items : goal.returns-clause-items

@@ -1,14 +1,10 @@
 use Rattle.std.proofs.Common.{◌≡◌, ◌++◌, length, not, sym, ◌∙◌, ◌+◌, ap, arith, length-append}
-use Rattle.std.specs.List.{filter}
-use Rattle.std.proofs.lemmas.List.{length-map}
+use Rattle.std.{specs.List.filter, proofs.lemmas.List.length-map}
 use Rattle.std.proofs.lemmas.List.Elements.{filter-append}
 use Rattle.guest_code.specs.Program.{Program}
-use Rattle.walk_items.specs.Items.{ItemView, item_at}
-use Rattle.walk_items.specs.Walks.{items_at}
-use Rattle.walk_prefixes.specs.PrefixLists.{is_later}
-use Rattle.walk_prefixes.proofs.Later.{left_and_dropped}
-use Rattle.book.specs.ItemLists.{all_of}
-use Rattle.book.proofs.PackedItems.{items_left, length-all}
+use Rattle.walk_items.specs.{Items.{ItemView, item_at}, Walks.items_at}
+use Rattle.walk_prefixes.{specs.PrefixLists.is_later, proofs.Later.left_and_dropped}
+use Rattle.book.{specs.ItemLists.all_of, proofs.PackedItems.{items_left, length-all}}
 use Rattle.book.proofs.item_list.ItemList.drop_later.Goals as goal
 
 left : (c : goal.After-len-4) → (p : Program) → items_at p c.remove_later-packed.new.self

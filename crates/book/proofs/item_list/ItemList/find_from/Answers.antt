@@ -1,15 +1,12 @@
 use Rattle.std.proofs.Common.{◌≡◌, ◌∙◌, ◌≤◌, ◌<◌, ◌-◌, ◌+◌, ◌++◌, ◌∷◌, List, ℕ, [], suc, ap, sym, subst, arith, length, get_or, take, drop, Some, slice_get, length-drop}
-use Rattle.std.specs.List.{All}
-use Rattle.std.proofs.Math.Seq.{take-suc}
-use Rattle.std.proofs.lemmas.List.{get_or-drop, drop-drop}
-use Rattle.std.proofs.lemmas.List.Elements.{All-nil, All-cons, All-append}
+use Rattle.std.{specs.List.All, proofs.Math.Seq.take-suc}
+use Rattle.std.proofs.lemmas.List.{get_or-drop, drop-drop, Elements.{All-nil, All-cons, All-append}}
 use Rattle.guest_code.specs.Program.{Program}
 use Rattle.walk_items.specs.Items.{ItemView}
-use Rattle.book.specs.ItemLists.{all_of}
-use Rattle.book.specs.Books.{remove_each, AreOpenAt, StandInOrder}
-use Rattle.book.proofs.PackedItems.{length-all, got-or, got-unpacked}
-use Rattle.book.proofs.Lists.{IsBehind, behind_first, behind_next, each_more, open_more, dropped_at}
+use Rattle.book.specs.{Books.{remove_each, AreOpenAt, StandInOrder}, ItemLists.all_of}
 use Rattle.book.proofs.InOrder.{none_stand, next_stand}
+use Rattle.book.proofs.Lists.{IsBehind, behind_first, behind_next, each_more, open_more, dropped_at}
+use Rattle.book.proofs.PackedItems.{length-all, got-or, got-unpacked}
 use Rattle.book.proofs.item_list.ItemList.find_from.Goals as goal
 
 -- a list from a place on, by the element there

@@ -1,8 +1,7 @@
 use Rattle.std.proofs.Common.{◌≡◌, ◌≤◌, ◌+◌, take, drop, length}
 use Rattle.std.specs.List.{All}
 use Rattle.guest_code.specs.Program.{Program}
-use Rattle.book.specs.ItemLists.{all_of}
-use Rattle.book.specs.Books.{remove_each, AreOpenAt, StandInOrder}
+use Rattle.book.specs.{Books.{remove_each, AreOpenAt, StandInOrder}, ItemLists.all_of}
 use Rattle.book.proofs.Lists.{IsBehind}
 use Rattle.book.proofs.item_list.ItemList.find_from.Given as goal
 

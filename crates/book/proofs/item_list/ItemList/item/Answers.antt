@@ -1,9 +1,7 @@
 use Rattle.std.proofs.Common.{◌≡◌, ◌+◌, ◌∙◌, ◌<◌, ap, sym, subst, arith, length, take, Some, slice_get, List, ℕ}
-use Rattle.std.specs.Arc.{arc_value}
-use Rattle.std.specs.List.{All}
-use Rattle.walk_items.specs.Items.{IsItem, item_at}
+use Rattle.std.specs.{Arc.arc_value, List.All}
+use Rattle.walk_items.specs.{Items.{IsItem, item_at}, Walks.items_at}
 use Rattle.walk_prefixes.specs.PrefixLists.{last_of}
-use Rattle.walk_items.specs.Walks.{items_at}
 use Rattle.book.specs.ItemLists.{ListView, list_view, all_of}
 use Rattle.book.proofs.PackedItems.{first_run, got-last, got-packed, if_ok}
 use Rattle.book.proofs.item_list.ItemList.item.Goals as goal

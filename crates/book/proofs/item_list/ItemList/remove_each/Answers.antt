@@ -1,12 +1,8 @@
 use Rattle.std.proofs.Common.{◌≡◌, ◌∙◌, ◌-◌, ◌+◌, ◌++◌, ◌∷◌, suc, ap, sym, arith, length, drop, get_or}
-use Rattle.std.specs.List.{remove}
-use Rattle.std.proofs.lemmas.List.{length-map}
+use Rattle.std.{specs.List.remove, proofs.Math.Seq.drop-cons, proofs.lemmas.List.length-map}
 use Rattle.std.proofs.lemmas.List.Edits.{remove-append_right}
-use Rattle.std.proofs.Math.Seq.{drop-cons}
-use Rattle.walk_items.specs.Items.{item_at}
-use Rattle.walk_items.specs.Walks.{items_at}
-use Rattle.book.specs.ItemLists.{all_of, list_view}
-use Rattle.book.specs.Books.{remove_each}
+use Rattle.walk_items.specs.{Items.item_at, Walks.items_at}
+use Rattle.book.specs.{Books.remove_each, ItemLists.{all_of, list_view}}
 use Rattle.book.proofs.Lists.{removed_any, within_same, each_same}
 use Rattle.book.proofs.PackedItems.{if_none, length-all}
 use Rattle.book.proofs.item_list.ItemList.remove_each.Goals as goal

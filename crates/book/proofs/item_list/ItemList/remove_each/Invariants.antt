@@ -1,7 +1,6 @@
 use Rattle.std.proofs.Common.{◌≡◌, drop}
 use Rattle.guest_code.specs.Program.{Program}
-use Rattle.book.specs.ItemLists.{all_of, list_view}
-use Rattle.book.specs.Books.{remove_each}
+use Rattle.book.specs.{Books.remove_each, ItemLists.{all_of, list_view}}
 use Rattle.book.proofs.item_list.ItemList.remove_each.Given as goal
 
 abbrev pub invariant-loop-k : goal.invariant-loop-k

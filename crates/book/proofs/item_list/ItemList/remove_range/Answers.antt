@@ -1,10 +1,7 @@
 use Rattle.std.proofs.Common.{◌≡◌, ◌-◌, ◌∙◌, ◌++◌, ap, arith, length}
-use Rattle.std.specs.List.{remove_range}
-use Rattle.std.proofs.lemmas.List.{length-map}
-use Rattle.walk_items.specs.Items.{item_at}
-use Rattle.walk_items.specs.Walks.{items_at}
-use Rattle.book.specs.ItemLists.{all_of}
-use Rattle.book.proofs.Lists.{range_right}
+use Rattle.std.{specs.List.remove_range, proofs.lemmas.List.length-map}
+use Rattle.walk_items.specs.{Items.item_at, Walks.items_at}
+use Rattle.book.{specs.ItemLists.all_of, proofs.Lists.range_right}
 use Rattle.book.proofs.item_list.ItemList.remove_range.Goals as goal
 
 pub returns-clause-items : goal.returns-clause-items

@@ -1,8 +1,7 @@
 use Rattle.std.proofs.Common.{◌≡◌, ◌-◌, ◌∙◌, ◌++◌, ap, arith, length, take}
 use Rattle.guest_code.specs.Program.{Program}
 use Rattle.walk_items.specs.Walks.{items_at}
-use Rattle.book.specs.ItemLists.{all_of}
-use Rattle.book.proofs.PackedItems.{cut-both}
+use Rattle.book.{specs.ItemLists.all_of, proofs.PackedItems.cut-both}
 use Rattle.book.proofs.item_list.ItemList.truncate.Goals as goal
 
 pub returns : goal.returns

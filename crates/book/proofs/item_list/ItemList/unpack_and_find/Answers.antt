@@ -1,10 +1,8 @@
 use Rattle.std.proofs.Common.{subst, IfOk, IfNone, IfSome, List, sym, ◌∙◌, refl}
 use Rattle.std.specs.Arc.{arc_value}
 use Rattle.walk_items.specs.Items.{ItemView}
-use Rattle.book.specs.ItemLists.{all_of}
-use Rattle.book.specs.Books.{AreOpenAt, StandInOrder}
-use Rattle.book.proofs.PackedItems.{still_own}
-use Rattle.book.proofs.TakenOver.{none_there, unpacked_only}
+use Rattle.book.specs.{Books.{AreOpenAt, StandInOrder}, ItemLists.all_of}
+use Rattle.book.proofs.{PackedItems.still_own, TakenOver.{none_there, unpacked_only}}
 use Rattle.book.proofs.item_list.ItemList.unpack_and_find.Goals as goal
 
 pub returns-in-Some-clause-there : goal.returns-in-Some-clause-there

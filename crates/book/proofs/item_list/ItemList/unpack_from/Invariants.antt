@@ -1,8 +1,6 @@
 use Rattle.std.proofs.Common.{◌≡◌, length}
-use Rattle.std.specs.Arc.{arc_value}
-use Rattle.std.specs.List.{All}
-use Rattle.walk_items.specs.Items.{IsItem}
-use Rattle.walk_items.specs.Walks.{items_at}
+use Rattle.std.specs.{Arc.arc_value, List.All}
+use Rattle.walk_items.specs.{Items.IsItem, Walks.items_at}
 use Rattle.book.specs.ItemLists.{all_of}
 use Rattle.book.proofs.item_list.ItemList.unpack_from.Given as goal
 

@@ -1,14 +1,9 @@
 use Rattle.std.proofs.Common.{rules, refl, arith, ◌≡◌, ◌++◌, ◌∷◌, [], sym, subst, map, List, IsPermutation}
-use Rattle.std.specs.Arc.{arc_value}
-use Rattle.std.specs.List.{All}
-use Rattle.std.proofs.lemmas.List.Sorted.{All-permutation}
-use Rattle.walk_items.specs.Items.{IsItem, ItemView}
-use Rattle.walk_items.specs.Walks.{items_at}
+use Rattle.std.{specs.Arc.arc_value, specs.List.All, proofs.lemmas.List.Sorted.All-permutation}
+use Rattle.walk_items.specs.{Items.{IsItem, ItemView}, Walks.items_at}
 use Rattle.walk_items.proofs.ListParts.{all_left, all_right}
-use Rattle.book.specs.ItemLists.{ListView, all_of}
-use Rattle.book.specs.Books.{Keeps}
-use Rattle.book.specs.Lending.{LendingView, as_book, all_lent}
-use Rattle.book.proofs.LendingFields.{lending_of}
+use Rattle.book.specs.{Books.Keeps, ItemLists.{ListView, all_of}}
+use Rattle.book.{specs.Lending.{LendingView, as_book, all_lent}, proofs.LendingFields.lending_of}
 use Rattle.book.proofs.Lent.{lists_back, all_back, open_runs, keeps_permuted}
 use Rattle.book.proofs.lending.LendingBook.into_book.Goals as goal
 

@@ -1,7 +1,6 @@
 use Rattle.std.proofs.Common.{◌++◌, length, map, IsPermutation}
 use Rattle.std.specs.Arc.{arc_value}
-use Rattle.book.specs.ItemLists.{all_of}
-use Rattle.book.specs.Lending.{as_book, all_lent}
+use Rattle.book.specs.{ItemLists.all_of, Lending.{as_book, all_lent}}
 use Rattle.book.proofs.lending.LendingBook.into_book.Given as goal
 
 -- what is lent still and what is free are the open items

@@ -1,15 +1,12 @@
 use Rattle.std.proofs.Common.{rules, ◌≡◌, ◌∙◌, ◌++◌, ◌<◌, [], refl, ap, sym, subst, arith, length, get_or, set, take, slice_get, List, ◌-◌}
 use Rattle.std.proofs.lemmas.List.{map-set}
-use Rattle.walk_items.specs.Items.{ItemView}
-use Rattle.walk_items.specs.Walks.{items_at}
-use Rattle.book.specs.ItemLists.{ListView, all_of}
-use Rattle.book.specs.Books.{Keeps}
+use Rattle.walk_items.specs.{Items.ItemView, Walks.items_at}
+use Rattle.book.specs.{Books.Keeps, ItemLists.{ListView, all_of}}
 use Rattle.book.specs.Lending.{LendingView, Lends, Reorders, IsLoanOf, Has, as_book, last_free, lending_view, lent_to}
 use Rattle.book.proofs.LendingFields.{lending_of}
 use Rattle.book.proofs.Lent.{lent_at, set_same, got_set, within, lends, reordered, same_order, of_worker, is_loan, same_loan}
-use Rattle.book.proofs.Lists.{no_items}
+use Rattle.book.proofs.{Lists.no_items, lending.LendingBook.lend.Goals.After-branch-move_last_into}
 use Rattle.book.proofs.lending.LendingBook.lend.Goals as goal
-use Rattle.book.proofs.lending.LendingBook.lend.Goals.{After-branch-move_last_into}
 
 -- the worker has nothing yet
 idle : (c : After-branch-move_last_into) → Has (lending_of c.self.inside) c.args.worker []

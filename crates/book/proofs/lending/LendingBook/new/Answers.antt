@@ -1,8 +1,7 @@
 use Rattle.std.proofs.Common.{◌≡◌, ◌∙◌, [], ◌∷◌, ◌++◌, ap, sym, subst, map}
 use Rattle.std.proofs.lemmas.List.{map-append, replicate_more}
 use Rattle.walk_items.specs.Walks.{items_at}
-use Rattle.book.specs.ItemLists.{all_of}
-use Rattle.book.specs.Books.{BookView, Keeps}
+use Rattle.book.specs.{Books.{BookView, Keeps}, ItemLists.all_of}
 use Rattle.book.proofs.LendingFields.{not_lent_yet}
 use Rattle.book.proofs.lending.LendingBook.new.Goals as goal
 

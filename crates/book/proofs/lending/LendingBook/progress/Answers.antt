@@ -1,10 +1,8 @@
 use Rattle.std.proofs.Common.{◌≡◌, ◌∙◌, ◌+◌, ◌<◌, ◌≤◌, ◌++◌, ap, sym, subst, arith, length, get_or, take}
 use Rattle.std.proofs.lemmas.List.{length-map, take_all}
 use Rattle.walk_summary.specs.Summaries.{cut}
-use Rattle.book.specs.ItemLists.{ListView, all_of}
-use Rattle.book.specs.Lending.{LendingView, all_lent}
-use Rattle.book.proofs.LendingFields.{lending_of}
-use Rattle.book.proofs.Lent.{lent_at, counted_more}
+use Rattle.book.specs.{ItemLists.{ListView, all_of}, Lending.{LendingView, all_lent}}
+use Rattle.book.proofs.{LendingFields.lending_of, Lent.{lent_at, counted_more}}
 use Rattle.book.proofs.lending.LendingBook.progress.Goals as goal
 
 pub loop-list-preserved : goal.loop-list-preserved

@@ -1,20 +1,15 @@
 use Rattle.std.proofs.Common.{rules, ◌≡◌, ◌∙◌, ◌<◌, ◌++◌, [], false, true, not, ◌&&◌, refl, ap, sym, subst, get_or, length, set, slice_get, Some, inr}
-use Rattle.std.specs.Arc.{arc_value}
-use Rattle.std.specs.List.{All}
-use Rattle.std.proofs.lemmas.List.{map-set}
-use Rattle.walk_items.specs.Items.{IsItem, AreOf}
-use Rattle.walk_items.specs.Walks.{items_at, listed_if}
-use Rattle.walk_items.proofs.Listed.{listed_items}
-use Rattle.walk_items.proofs.ListParts.{all_right}
-use Rattle.book.specs.ItemLists.{ListView, all_of}
-use Rattle.book.specs.Books.{Keeps, HaveSettled}
+use Rattle.std.{specs.Arc.arc_value, specs.List.All, proofs.lemmas.List.map-set}
+use Rattle.walk_items.specs.{Items.{IsItem, AreOf}, Walks.{items_at, listed_if}}
+use Rattle.walk_items.proofs.{ListParts.all_right, Listed.listed_items}
+use Rattle.book.specs.{Books.{Keeps, HaveSettled}, ItemLists.{ListView, all_of}}
 use Rattle.book.specs.Lending.{LendingView, Has, as_book, lending_view}
 use Rattle.book.proofs.LendingFields.{lending_of}
 use Rattle.book.proofs.Lent.{lent_at, set_same, of_worker, is_loan, came_back, settled_loan}
 use Rattle.book.proofs.OpenItems.{waiting_run, run_of, same_of, more_of}
 use Rattle.book.proofs.TakenOver.{grown, still_there, taken_back}
-use Rattle.book.proofs.lending.LendingBook.settle.Goals as goal
 use Rattle.book.proofs.lending.LendingBook.settle.Goals.{In_ok-reserve, After-drop-none-inside-in-Err-2, After-drop-none-inside-3}
+use Rattle.book.proofs.lending.LendingBook.settle.Goals as goal
 
 pub has_same_items-requires-clause-run : goal.has_same_items-requires-clause-run
 has_same_items-requires-clause-run c =

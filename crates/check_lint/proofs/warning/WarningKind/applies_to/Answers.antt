@@ -1,9 +1,8 @@
 use Rattle.std.proofs.Common.{◌≡◌, ◌↔◌, ℕ, Bool, IsTrue, List, subst, sym}
-use Rattle.guest_code.specs.Program.{Program, code_of}
-use Rattle.guest_code.specs.declared.program.Instruction.{Instruction}
+use Rattle.guest_code.specs.{Program.{Program, code_of}, declared.program.Instruction.Instruction}
+use Rattle.check_lint.specs.Warnings.{IsSo, WaitNotLookedAtAgain}
 use Rattle.check_lint.specs.declared.warning.WarningKind.{WarningKind}
 use Rattle.check_lint.specs.declared.warning.WarningKind.TheVariants as kinds
-use Rattle.check_lint.specs.Warnings.{IsSo, WaitNotLookedAtAgain}
 use Rattle.check_lint.proofs.warning.WarningKind.applies_to.Goals as goal
 
 of_wait : (p : Program) (kind : WarningKind) (t k : ℕ) (code : List Instruction) (b : Bool)

@@ -1,14 +1,10 @@
-use Rattle.std.proofs.Common.{◌∙◌, ◌<◌, ◌+◌, ◌&&◌, [], ap, refl, arith, replicate, get_or, length}
 use Rattle.std.specs.Prelude.{false, None, slice_index_or, if◌then◌else◌}
-use Rattle.std.specs.List.{count_by}
-use Rattle.std.proofs.lemmas.List.{get_or-replicate, take_all, length-set}
+use Rattle.std.proofs.Common.{◌∙◌, ◌<◌, ◌+◌, ◌&&◌, [], ap, refl, arith, replicate, get_or, length}
+use Rattle.std.{specs.List.count_by, proofs.lemmas.List.{get_or-replicate, take_all, length-set}}
 use Rattle.guest_code.specs.declared.limits.TheConstants.{THREADS, LOCALS, VARIABLES}
 use Rattle.check_lint.specs.Uses.{is, variable_used}
-use Rattle.explain_cause.specs.Events.{is_use}
-use Rattle.explain_cause.specs.declared.event.Event.{Event}
-use Rattle.explain_cause.proofs.Places.{first_event}
-use Rattle.explain_cause.specs.inner.Keeping.{count}
-use Rattle.explain_cause.proofs.Rows.{counted_on, row_on}
+use Rattle.explain_cause.specs.{Events.is_use, declared.event.Event.Event, inner.Keeping.count}
+use Rattle.explain_cause.proofs.{Places.first_event, Rows.{counted_on, row_on}}
 use Rattle.explain_cause.proofs.backward_slice.BackwardSlice.at_end.Goals as goal
 
 pub loop-event-init : goal.loop-event-init

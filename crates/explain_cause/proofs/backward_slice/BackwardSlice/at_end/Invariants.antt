@@ -1,8 +1,7 @@
 use Rattle.std.proofs.Common.{◌≡◌, ℕ, ◌<◌, take, length}
 use Rattle.std.specs.List.{count_by}
 use Rattle.guest_code.specs.declared.limits.TheConstants.{THREADS, VARIABLES}
-use Rattle.explain_cause.specs.Events.{is_use}
-use Rattle.explain_cause.specs.inner.Keeping.{count}
+use Rattle.explain_cause.specs.{Events.is_use, inner.Keeping.count}
 use Rattle.explain_cause.proofs.backward_slice.BackwardSlice.at_end.Given as goal
 
 abbrev pub invariant-loop-event : goal.invariant-loop-event

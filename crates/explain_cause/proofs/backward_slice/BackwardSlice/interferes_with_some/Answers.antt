@@ -1,7 +1,6 @@
 use Rattle.std.proofs.Common.{◌≡◌, ◌∙◌, sym, subst, arith, false}
 use Rattle.guest_code.specs.declared.limits.TheConstants.{THREADS}
-use Rattle.explain_cause.specs.Causes.{any_below}
-use Rattle.explain_cause.specs.inner.Keeping.{is_missed_by_in}
+use Rattle.explain_cause.specs.{Causes.any_below, inner.Keeping.is_missed_by_in}
 use Rattle.explain_cause.proofs.Rows.{true_below}
 use Rattle.explain_cause.proofs.backward_slice.BackwardSlice.interferes_with_some.Goals as goal
 

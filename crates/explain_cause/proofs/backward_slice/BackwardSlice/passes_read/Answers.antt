@@ -1,7 +1,6 @@
 use Rattle.std.proofs.Common.{◌≡◌, ◌∙◌, sym, subst, arith, false}
 use Rattle.guest_code.specs.declared.limits.TheConstants.{VARIABLES}
-use Rattle.explain_cause.specs.Causes.{any_below}
-use Rattle.explain_cause.specs.inner.Keeping.{passes_in}
+use Rattle.explain_cause.specs.{Causes.any_below, inner.Keeping.passes_in}
 use Rattle.explain_cause.proofs.Rows.{true_below}
 use Rattle.explain_cause.proofs.backward_slice.BackwardSlice.passes_read.Goals as goal
 

@@ -1,7 +1,6 @@
-use Rattle.std.proofs.Common.{◌∙◌, sym, subst}
 use Rattle.std.specs.Prelude.{All}
-use Rattle.explain_cause.specs.inner.Wanting.{IsValidEvent}
-use Rattle.explain_cause.proofs.Valid.{course_valid}
+use Rattle.std.proofs.Common.{◌∙◌, sym, subst}
+use Rattle.explain_cause.{specs.inner.Wanting.IsValidEvent, proofs.Valid.course_valid}
 use Rattle.explain_cause.proofs.causes.Causes.of.Goals as goal
 
 pub marks_of-requires : goal.marks_of-requires

@@ -1,12 +1,9 @@
-use Rattle.std.proofs.Common.{◌≡◌, ◌∙◌, ◌++◌, ◌∷◌, [], length, ap, sym, arith, rules}
 use Rattle.std.specs.Prelude.{slice_set}
-use Rattle.std.proofs.lemmas.List.{append-nil}
-use Rattle.std.proofs.lemmas.Result.{on_ok_weaker}
-use Rattle.std.proofs.lemmas.Bool.{eq-eqb, ne_eqb}
+use Rattle.std.proofs.Common.{◌≡◌, ◌∙◌, ◌++◌, ◌∷◌, [], length, ap, sym, arith, rules}
+use Rattle.std.proofs.lemmas.{Bool.{eq-eqb, ne_eqb}, List.append-nil, Result.on_ok_weaker}
 use Rattle.guest_code.specs.declared.limits.TheConstants.{THREADS}
 use Rattle.check_lint.specs.Uses.{local_set}
-use Rattle.explain_cause.specs.Events.{value_by}
-use Rattle.explain_cause.specs.Course.{all_after, locals_with, row}
+use Rattle.explain_cause.specs.{Course.{all_after, locals_with, row}, Events.value_by}
 use Rattle.explain_cause.proofs.Runs.{nothing_by, nothing_set, on_events, on_locals, step_alone}
 use Rattle.explain_cause.proofs.events.EventLog.put_step_events.Goals as goal
 

@@ -1,12 +1,10 @@
 use Rattle.std.proofs.Common.{rules, ◌≡◌, ℕ, ◌+◌, Bool, true, length, ◌∙◌, ap, sym, subst, refl, arith, length-take, []}
 use Rattle.guest_code.specs.Program.{Program}
-use Rattle.semantics.specs.Machine.{Snapshot, is_enabled}
-use Rattle.semantics.proofs.WorkFalls.{enabled_below}
+use Rattle.semantics.{specs.Machine.{Snapshot, is_enabled}, proofs.WorkFalls.enabled_below}
 use Rattle.replay.proofs.LinesOfSteps.{few_so_far}
-use Rattle.explain_run.specs.Steps.{lines_of}
-use Rattle.explain_run.specs.inner.Carrying.{AreHoldersAfter}
-use Rattle.explain_run.proofs.Pushed.{written_back}
+use Rattle.explain_run.specs.{Steps.lines_of, inner.Carrying.AreHoldersAfter}
 use Rattle.explain_run.proofs.CarriedOut.{IsCarriedUpTo, carried_none, carried_more}
+use Rattle.explain_run.proofs.Pushed.{written_back}
 use Rattle.explain_run.proofs.explanation.Run.new.Goals as goal
 
 -- the thread that was asked about is enabled

@@ -1,6 +1,5 @@
 use Rattle.std.proofs.Common.{rules, w64, ◌≡◌, ◌∙◌, ℕ, ◌+◌, ℤ, pos, List, [], set, append-nil, sym, subst, ap, refl, arith, get_or, None}
-use Rattle.std.proofs.lemmas.Int.{to_z-of_z}
-use Rattle.std.specs.List.{slice_get}
+use Rattle.std.{specs.List.slice_get, proofs.lemmas.Int.to_z-of_z}
 use Rattle.explain_waits.specs.Looks.{LooksAt, done, is_wait, load_of, resumed_at}
 use Rattle.explain_waits.proofs.LooksOnce.{looks_more}
 use Rattle.explain_waits.proofs.look.Look.after.Goals as goal

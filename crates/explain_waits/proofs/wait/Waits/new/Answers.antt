@@ -1,18 +1,14 @@
-use Rattle.std.proofs.Common.{◌≡◌, ◌∙◌, ℕ, Bool, List, length, map, Some, sym, subst, ap, arith, refl, Vec, Global}
 use Rattle.std.specs.Prelude.{All, is_some}
-use Rattle.std.specs.List.{filter}
-use Rattle.std.proofs.lemmas.List.{map_push}
+use Rattle.std.proofs.Common.{◌≡◌, ◌∙◌, ℕ, Bool, List, length, map, Some, sym, subst, ap, arith, refl, Vec, Global}
+use Rattle.std.{specs.List.filter, proofs.lemmas.List.map_push}
 use Rattle.std.proofs.lemmas.List.Elements.{All-push}
 use Rattle.semantics.specs.Work.{up_from}
 use Rattle.explain_run.specs.declared.step.Step.{Step}
 use Rattle.replay.proofs.LinesOfSteps.{passed_more, passed_same}
-use Rattle.explain_waits.specs.declared.fate.Fate.{Fate}
-use Rattle.explain_waits.specs.declared.wait.Wait.{Wait}
 use Rattle.explain_waits.specs.Endings.{blocked_of, statements_to}
 use Rattle.explain_waits.specs.Waiting.{TellsWait, IsLastStep, circles_in}
-use Rattle.explain_waits.specs.inner.Rows.{lists}
-use Rattle.explain_waits.proofs.CirclesTold.{circles_told}
-use Rattle.explain_waits.proofs.WaitsTold.{wait_told}
+use Rattle.explain_waits.specs.{declared.fate.Fate.Fate, declared.wait.Wait.Wait, inner.Rows.lists}
+use Rattle.explain_waits.proofs.{CirclesTold.circles_told, WaitsTold.wait_told}
 use Rattle.explain_waits.proofs.wait.Waits.new.Goals.{in-Some+in_ok-of+in_ok-unblocking_statements+in_ok-push, in_default}
 use Rattle.explain_waits.proofs.wait.Waits.new.Goals as goal
 

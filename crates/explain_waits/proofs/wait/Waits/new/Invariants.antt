@@ -1,10 +1,8 @@
-use Rattle.std.proofs.Common.{◌≡◌, map}
 use Rattle.std.specs.Prelude.{All, is_some}
+use Rattle.std.proofs.Common.{◌≡◌, map}
 use Rattle.std.specs.List.{filter}
 use Rattle.semantics.specs.Work.{up_from}
-use Rattle.explain_waits.specs.declared.wait.Wait.{Wait}
-use Rattle.explain_waits.specs.Endings.{blocked_of}
-use Rattle.explain_waits.specs.Waiting.{TellsWait}
+use Rattle.explain_waits.specs.{Endings.blocked_of, Waiting.TellsWait, declared.wait.Wait.Wait}
 use Rattle.explain_waits.specs.inner.Rows.{lists}
 use Rattle.explain_waits.proofs.wait.Waits.new.Given as goal
 

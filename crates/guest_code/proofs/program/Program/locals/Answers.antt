@@ -1,7 +1,6 @@
 use Rattle.std.proofs.Common.{◌≤◌, ap, subst, sym}
-use Rattle.guest_code.specs.declared.limits.TheConstants.{LOCALS}
 use Rattle.guest_code.specs.Program.{Program, Thread, no_thread}
-use Rattle.guest_code.proofs.ThreadSeen.{thread_read}
+use Rattle.guest_code.{specs.declared.limits.TheConstants.LOCALS, proofs.ThreadSeen.thread_read}
 use Rattle.guest_code.proofs.program.Program.locals.Goals as goal
 
 pub returns-clause-few : goal.returns-clause-few

@@ -1,13 +1,12 @@
 use Rattle.std.proofs.Common.{◌≡◌, ◌∙◌, ◌&&◌, Bool, refl}
 use Rattle.std.specs.Cmp.Lexicographic.{pointwise}
-use Rattle.guest_code.specs.contracts.program.VariablePartialEq.TheImpl.{eq-value as variable-eq}
+use Rattle.guest_code.specs.Same.{same_program}
 use Rattle.guest_code.specs.contracts.program.SemaphorePartialEq.TheImpl.{eq-value as semaphore-eq}
 use Rattle.guest_code.specs.contracts.program.ThreadPartialEq.TheImpl.{eq-value as thread-eq}
-use Rattle.guest_code.specs.Same.{same_program}
+use Rattle.guest_code.specs.contracts.program.VariablePartialEq.TheImpl.{eq-value as variable-eq}
 use Rattle.guest_code.proofs.ProgramEquality.{same_items, then_so, else_so, whole}
+use Rattle.guest_code.proofs.program.ProgramPartialEq.eq.Goals.{then-eq, else-eq, then-eq-2, else-eq-2, then-eq-3, else-eq-3, Joined-eq-3}
 use Rattle.guest_code.proofs.program.ProgramPartialEq.eq.Goals as goal
-use Rattle.guest_code.proofs.program.ProgramPartialEq.eq.Goals.{then-eq, else-eq, then-eq-2, else-eq-2, then-eq-3, else-eq-3}
-use Rattle.guest_code.proofs.program.ProgramPartialEq.eq.Goals.{Joined-eq-3}
 
 -- what the tests of all lists but the last come to
 abbrev but_threads : Joined-eq-3 → Bool

@@ -1,9 +1,7 @@
 use Rattle.std.proofs.Common.{List, map, sym, ap, subst, ◌∙◌}
 use Rattle.std.proofs.lemmas.List.{take_all}
-use Rattle.guest_syntax.specs.declared.tree.Thread.{Thread}
-use Rattle.guest_syntax.specs.Tree.{thread_view, tree_view}
-use Rattle.guest_code.specs.Code.{code}
-use Rattle.guest_code.specs.SourceMap.{SourceMap, thread_places, IsMapOf}
+use Rattle.guest_syntax.specs.{Tree.{thread_view, tree_view}, declared.tree.Thread.Thread}
+use Rattle.guest_code.specs.{Code.code, SourceMap.{SourceMap, thread_places, IsMapOf}}
 use Rattle.guest_code.proofs.SourcePlaces.{map_is, map_fits}
 use Rattle.guest_code.proofs.source_map.SourceMap.new.Goals as goal
 

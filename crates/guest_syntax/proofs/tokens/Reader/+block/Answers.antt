@@ -1,10 +1,9 @@
 use Rattle.std.proofs.Common.{arith, refl}
 use Rattle.std.proofs.lemmas.Result.{err_from_is_err_and}
-use Rattle.guest_syntax.specs.Tree.{placed_view}
-use Rattle.guest_syntax.specs.reader.Reads.{rest_of}
+use Rattle.guest_syntax.specs.{Tree.placed_view, reader.Reads.rest_of}
 use Rattle.guest_syntax.specs.reader.Statements.{turn_from, block_from, choice_from}
-use Rattle.guest_syntax.proofs.StatementView.{view-else}
 use Rattle.guest_syntax.proofs.ItemLoops.{begins, goes_on, is_done, stops}
+use Rattle.guest_syntax.proofs.StatementView.{view-else}
 use Rattle.guest_syntax.proofs.tokens.Reader.+block.Goals as goal
 
 pub rest_of_block-items-init : goal.rest_of_block-items-init

@@ -1,9 +1,6 @@
 use Rattle.std.proofs.Common.{◌+◌, ◌*◌, ◌≡◌, ◌≤◌, length, map}
-use Rattle.guest_syntax.specs.Tree.{placed_view}
-use Rattle.guest_syntax.specs.reader.Reads.{rest_of}
-use Rattle.guest_syntax.specs.reader.Items.{all_from}
-use Rattle.guest_syntax.specs.reader.Statements.{turn_from, block_from}
-use Rattle.guest_syntax.proofs.ItemLoops.{Goes}
+use Rattle.guest_syntax.specs.{Tree.placed_view, reader.Items.all_from, reader.Reads.rest_of}
+use Rattle.guest_syntax.{specs.reader.Statements.{turn_from, block_from}, proofs.ItemLoops.Goes}
 use Rattle.guest_syntax.proofs.tokens.Reader.+block.Given as goal
 
 abbrev pub decreases-block : goal.decreases-block

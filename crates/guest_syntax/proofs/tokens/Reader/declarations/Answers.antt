@@ -1,7 +1,6 @@
 use Rattle.std.proofs.Common.{refl}
 use Rattle.std.proofs.lemmas.Result.{err_from_is_err_and}
-use Rattle.guest_syntax.specs.Tree.{declaration_view}
-use Rattle.guest_syntax.specs.reader.Reads.{rest_of}
+use Rattle.guest_syntax.specs.{Tree.declaration_view, reader.Reads.rest_of}
 use Rattle.guest_syntax.specs.reader.Trees.{declaration_turn}
 use Rattle.guest_syntax.proofs.ItemLoops.{begins, goes_on, is_done, stops}
 use Rattle.guest_syntax.proofs.tokens.Reader.declarations.Goals as goal

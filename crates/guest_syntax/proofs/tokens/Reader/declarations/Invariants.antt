@@ -1,9 +1,6 @@
 use Rattle.std.proofs.Common.{◌≡◌, length, map}
-use Rattle.guest_syntax.specs.Tree.{declaration_view}
-use Rattle.guest_syntax.specs.reader.Reads.{rest_of}
-use Rattle.guest_syntax.specs.reader.Items.{all_from}
-use Rattle.guest_syntax.specs.reader.Trees.{declaration_turn}
-use Rattle.guest_syntax.proofs.ItemLoops.{Goes}
+use Rattle.guest_syntax.specs.{Tree.declaration_view, reader.Items.all_from, reader.Reads.rest_of}
+use Rattle.guest_syntax.{specs.reader.Trees.declaration_turn, proofs.ItemLoops.Goes}
 use Rattle.guest_syntax.proofs.tokens.Reader.declarations.Given as goal
 
 abbrev pub invariant-items : goal.invariant-items

@@ -1,5 +1,4 @@
-use Rattle.guest_syntax.specs.Answers.{is_token}
-use Rattle.guest_syntax.specs.reader.TokenViews.{kind_view}
+use Rattle.guest_syntax.specs.{Answers.is_token, reader.TokenViews.kind_view}
 use Rattle.guest_syntax.proofs.tokens.Reader.rest_of_literal.Goals as goal
 
 pub returns-in_default-clause-within : goal.returns-in_default-clause-within

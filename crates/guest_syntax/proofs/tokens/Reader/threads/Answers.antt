@@ -1,8 +1,6 @@
 use Rattle.std.proofs.Common.{refl}
 use Rattle.std.proofs.lemmas.Result.{err_from_is_err_and}
-use Rattle.guest_syntax.specs.Tree.{thread_view}
-use Rattle.guest_syntax.specs.reader.Reads.{rest_of}
-use Rattle.guest_syntax.specs.reader.Trees.{thread_turn}
+use Rattle.guest_syntax.specs.{Tree.thread_view, reader.Reads.rest_of, reader.Trees.thread_turn}
 use Rattle.guest_syntax.proofs.ItemLoops.{begins, goes_on, is_done, stops}
 use Rattle.guest_syntax.proofs.tokens.Reader.threads.Goals as goal
 

@@ -1,9 +1,6 @@
 use Rattle.std.proofs.Common.{◌≡◌, length, map}
-use Rattle.guest_syntax.specs.Tree.{thread_view}
-use Rattle.guest_syntax.specs.reader.Reads.{rest_of}
-use Rattle.guest_syntax.specs.reader.Items.{all_from}
-use Rattle.guest_syntax.specs.reader.Trees.{thread_turn}
-use Rattle.guest_syntax.proofs.ItemLoops.{Goes}
+use Rattle.guest_syntax.specs.{Tree.thread_view, reader.Items.all_from, reader.Reads.rest_of}
+use Rattle.guest_syntax.{specs.reader.Trees.thread_turn, proofs.ItemLoops.Goes}
 use Rattle.guest_syntax.proofs.tokens.Reader.threads.Given as goal
 
 abbrev pub invariant-items : goal.invariant-items

@@ -1,8 +1,7 @@
 use Rattle.std.proofs.Common.{rules, ◌≡◌, ◌∙◌, [], ⊎_elim, inl, inr, sym, subst, Bool, true, false, Result, Ok, Err}
 use Rattle.std.specs.declared.alloc.AllocError.{AllocError}
 use Rattle.std.proofs.lemmas.List.Elements.{All-nil, All-cons}
-use Rattle.walk_items.specs.declared.mode.Mode.{Mode}
-use Rattle.walk_items.specs.Items.{ItemView, AreOf}
+use Rattle.walk_items.specs.{Items.{ItemView, AreOf}, declared.mode.Mode.Mode}
 use Rattle.walk.specs.Founds.{HasAdded}
 use Rattle.book.specs.Books.{BookView, drops}
 use Rattle.runner.specs.inner.Shrinking.{HasLess, Went}

@@ -1,6 +1,5 @@
 use Rattle.std.proofs.Common.{◌≡◌, ◌∙◌, ◌∷◌, ◌++◌, [], List, true, false, ap, sym, subst, refl, take, arith}
-use Rattle.std.specs.List.{All, Contains}
-use Rattle.std.proofs.lemmas.List.{take_more, take_all}
+use Rattle.std.{specs.List.{All, Contains}, proofs.lemmas.List.{take_more, take_all}}
 use Rattle.std.proofs.lemmas.List.Elements.{All-push, All-contains}
 use Rattle.runner_parts.specs.declared.part.Part.{Part}
 use Rattle.runner_joining.specs.Parts.{Differ}

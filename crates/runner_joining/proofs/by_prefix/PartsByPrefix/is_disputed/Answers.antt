@@ -1,12 +1,9 @@
 use Rattle.std.proofs.Common.{◌≡◌, ◌∙◌, [], None, Some, true, false, refl, map, ap, sym, subst, arith}
-use denote.Ref.{Bor}
-use Rattle.std.specs.List.{All, Contains}
-use Rattle.std.specs.Option.{option_copied}
-use Rattle.std.proofs.lemmas.List.{take_all}
+use Rattle.std.{specs.List.{All, Contains}, specs.Option.option_copied, proofs.lemmas.List.take_all}
 use Rattle.std.proofs.lemmas.List.Elements.{All-nil, All-more}
+use denote.Ref.{Bor}
 use Rattle.runner_parts.specs.declared.part.Part.{Part}
-use Rattle.runner_joining.specs.Parts.{Differ}
-use Rattle.runner_joining.specs.inner.Lines.{parts_under}
+use Rattle.runner_joining.specs.{Parts.Differ, inner.Lines.parts_under}
 use Rattle.runner_joining.proofs.ByPrefix.{lines_are, line_in, none_differs}
 use Rattle.runner_joining.proofs.by_prefix.PartsByPrefix.is_disputed.Goals as goal
 

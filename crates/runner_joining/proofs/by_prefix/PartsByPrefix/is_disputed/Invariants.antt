@@ -1,6 +1,5 @@
 use Rattle.std.proofs.Common.{◌≡◌, map, take, All}
-use Rattle.runner_joining.specs.Parts.{Differ}
-use Rattle.runner_joining.specs.inner.Lines.{parts_under}
+use Rattle.runner_joining.specs.{Parts.Differ, inner.Lines.parts_under}
 use Rattle.runner_joining.proofs.by_prefix.PartsByPrefix.is_disputed.Given as goal
 
 abbrev pub invariant-loop-other : goal.invariant-loop-other

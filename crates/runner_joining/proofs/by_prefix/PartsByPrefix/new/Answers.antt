@@ -1,12 +1,9 @@
 use Rattle.std.proofs.Common.{◌≡◌, ◌++◌, ◌∷◌, [], Some, map, arith}
+use Rattle.std.specs.{BTreeMap.get_by, BTreeMap.Entry.map_with_value, Cmp.Lexicographic.slice_cmp}
+use Rattle.std.{specs.Ordering.nat_cmp, proofs.lemmas.List.map-append}
+use Rattle.std.proofs.lemmas.Map.Text.{btree_map_updates_str}
 use denote.Ref.{Bor}
 use Rattle.runner_parts.specs.declared.part.Part.{Part}
-use Rattle.std.specs.BTreeMap.{get_by}
-use Rattle.std.specs.BTreeMap.Entry.{map_with_value}
-use Rattle.std.specs.Cmp.Lexicographic.{slice_cmp}
-use Rattle.std.specs.Ordering.{nat_cmp}
-use Rattle.std.proofs.lemmas.List.{map-append}
-use Rattle.std.proofs.lemmas.Map.Text.{btree_map_updates_str}
 use Rattle.runner_joining.proofs.ByPrefix.{lines_of, lines_more}
 use Rattle.runner_joining.proofs.by_prefix.PartsByPrefix.new.Goals as goal
 

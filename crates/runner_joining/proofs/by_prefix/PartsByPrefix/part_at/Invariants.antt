@@ -1,6 +1,5 @@
 use Rattle.std.proofs.Common.{◌≡◌, map, take, All}
-use Rattle.runner_joining.specs.Parts.{Tells}
-use Rattle.runner_joining.specs.inner.Lines.{parts_under}
+use Rattle.runner_joining.specs.{Parts.Tells, inner.Lines.parts_under}
 use Rattle.runner_joining.proofs.by_prefix.PartsByPrefix.part_at.Given as goal
 
 abbrev pub invariant-loop-part : goal.invariant-loop-part

@@ -1,8 +1,7 @@
 use Rattle.std.proofs.Common.{sym, subst}
 use Rattle.std.specs.List.{Contains}
 use Rattle.walk_items.specs.Items.{ItemView}
-use Rattle.runner_joining.specs.Parts.{prefixes_for}
-use Rattle.runner_joining.proofs.Sums.{told_none, told_more}
+use Rattle.runner_joining.{specs.Parts.prefixes_for, proofs.Sums.{told_none, told_more}}
 use Rattle.runner_joining.proofs.joined.Joining.sum_at.Goals as goal
 
 pub part_for-requires-clause-listed : goal.part_for-requires-clause-listed

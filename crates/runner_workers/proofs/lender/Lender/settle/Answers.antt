@@ -1,9 +1,7 @@
 use Rattle.std.proofs.Common.{◌≡◌, ap, length}
 use Rattle.guest_code.specs.Program.{Program}
 use Rattle.walk_items.specs.Items.{ItemView}
-use Rattle.book.specs.ItemLists.{all_of}
-use Rattle.book.specs.Books.{places_from}
-use Rattle.book.specs.Lending.{as_book}
+use Rattle.book.specs.{Books.places_from, ItemLists.all_of, Lending.as_book}
 use Rattle.runner_workers.proofs.Kept.{found_in, kept_of}
 use Rattle.runner_workers.proofs.lender.Lender.settle.Goals as goal
 

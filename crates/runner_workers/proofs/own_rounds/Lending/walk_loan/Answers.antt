@@ -1,10 +1,8 @@
 use Rattle.std.proofs.Common.{rules, refl, ◌≡◌, ◌<◌, ◌∙◌, ap, sym, subst, arith, List, length, Some, slice_get}
 use Rattle.guest_code.specs.Program.{Program}
-use Rattle.walk_items.specs.Items.{ItemView}
-use Rattle.walk_items.specs.declared.mode.Mode.{Mode}
+use Rattle.walk_items.specs.{Items.ItemView, declared.mode.Mode.Mode}
 use Rattle.walk.specs.Founds.{HasAdded}
-use Rattle.book.specs.ItemLists.{all_of}
-use Rattle.book.proofs.PackedItems.{got-or}
+use Rattle.book.{specs.ItemLists.all_of, proofs.PackedItems.got-or}
 use Rattle.runner_workers.proofs.Lent.{none_walked, one_more_walked}
 use Rattle.runner_workers.proofs.own_rounds.Lending.walk_loan.Goals as goal
 

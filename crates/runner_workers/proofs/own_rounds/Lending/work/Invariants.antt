@@ -1,7 +1,6 @@
 use Rattle.std.proofs.Common.{◌≡◌}
 use Rattle.walk_items.specs.Items.{AreOf}
-use Rattle.runner_workers.specs.declared.lender.Task.TheVariants.{Walk}
-use Rattle.runner_workers.specs.inner.Loans.{IsLent}
+use Rattle.runner_workers.specs.{declared.lender.Task.TheVariants.Walk, inner.Loans.IsLent}
 use Rattle.runner_workers.proofs.own_rounds.Lending.work.Given as goal
 
 abbrev pub invariant-loop : goal.invariant-loop

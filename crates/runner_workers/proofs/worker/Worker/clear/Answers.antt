@@ -1,6 +1,5 @@
 use Rattle.std.proofs.Common.{◌≡◌, ap, sym, subst, arith}
-use Rattle.book.specs.Books.{HaveFound}
-use Rattle.book.proofs.Gathered.{none_found}
+use Rattle.book.{specs.Books.HaveFound, proofs.Gathered.none_found}
 use Rattle.runner_workers.proofs.worker.Worker.clear.Goals as goal
 
 pub returns-clause-kept : goal.returns-clause-kept

@@ -1,8 +1,6 @@
 use Rattle.std.proofs.Common.{rules, ◌≡◌, ◌<◌, ◌^◌, ◌∙◌, ap, sym, subst, arith, length, Some, slice_get}
-use Rattle.book.specs.Books.{HaveFound}
-use Rattle.book.proofs.PackedItems.{got-or}
+use Rattle.book.{specs.Books.HaveFound, proofs.Gathered.one_more_found, proofs.PackedItems.got-or}
 use Rattle.book.proofs.Rounds.{added_tried}
-use Rattle.book.proofs.Gathered.{one_more_found}
 use Rattle.runner_workers.proofs.worker.Worker.walk_item.Goals as goal
 
 pub returns-clause-kept : goal.returns-clause-kept

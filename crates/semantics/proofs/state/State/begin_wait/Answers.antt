@@ -1,8 +1,7 @@
 use Rattle.std.proofs.Common.{arith, ◌≡◌, ◌<◌, length, [], List, ℕ, ap, ◌∙◌, sym, subst}
 use Rattle.std.proofs.lemmas.List.{get_or_read}
 use Rattle.guest_code.specs.declared.limits.TheConstants.{THREADS}
-use Rattle.semantics.specs.Machine.{Snapshot, queue_of}
-use Rattle.semantics.proofs.StepsKeepStates.{room_to_wait}
+use Rattle.semantics.{specs.Machine.{Snapshot, queue_of}, proofs.StepsKeepStates.room_to_wait}
 use Rattle.semantics.proofs.state.State.begin_wait.Goals as goal
 
 pub push-requires : goal.push-requires

@@ -1,6 +1,5 @@
 use Rattle.std.proofs.Common.{◌/◌, ◌^◌, ◌%◌, ◌≢◌, ◌∙◌, arith, below_more, sym, ap, inl, inr, nat_eq}
-use Rattle.std.proofs.lemmas.Bool.{cases_lt}
-use Rattle.std.proofs.lemmas.Nat.Bits.{bit_at-zero}
+use Rattle.std.proofs.lemmas.{Bool.cases_lt, Nat.Bits.bit_at-zero}
 use Rattle.semantics.proofs.WorkFalls.{disabled_past}
 use Rattle.semantics.proofs.state.State.enabled.Goals as goal
 

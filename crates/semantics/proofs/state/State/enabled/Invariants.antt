@@ -1,6 +1,5 @@
 use Rattle.std.proofs.Common.{◌≡◌, ℕ, ◌<◌, ◌≤◌, false}
-use Rattle.semantics.specs.Machine.{is_enabled}
-use Rattle.semantics.specs.Mask.{has}
+use Rattle.semantics.specs.{Machine.is_enabled, Mask.has}
 use Rattle.semantics.proofs.state.State.enabled.Given as goal
 
 abbrev pub invariant-loop-t : goal.invariant-loop-t

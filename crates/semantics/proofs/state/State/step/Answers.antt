@@ -1,6 +1,5 @@
 use Rattle.std.proofs.Common.{rules, ap}
-use Rattle.semantics.specs.Machine.{Snapshot}
-use Rattle.semantics.proofs.Undone.{step_taken}
+use Rattle.semantics.{specs.Machine.Snapshot, proofs.Undone.step_taken}
 use Rattle.semantics.proofs.state.State.step.Goals as goal
 
 pub returns : goal.returns

@@ -1,12 +1,10 @@
 use Rattle.std.proofs.Common.{arith, ◌∙◌, ◌∷◌, [], ◌++◌, ◌+◌, ◌<◌, length, refl, ap, sym, subst, get_or, set, pos}
-use Rattle.semantics.specs.Machine.{queue_of}
-use Rattle.semantics_machine.specs.Refinement.{queued}
-use Rattle.semantics_machine.specs.inner.Steps.{AreShared, IsPerformed}
-use Rattle.semantics_machine.proofs.Queues.{recelled}
-use Rattle.semantics_machine.proofs.Performed.{leaves, waits_on, cannot_wait, room_for, owns_number, owner_is, owner_is_not}
 use Rattle.std.proofs.lemmas.List.{set-get_or}
-use Rattle.semantics.specs.declared.state.Status.TheVariants.{Stopped}
+use Rattle.semantics.specs.{Machine.queue_of, declared.state.Status.TheVariants.Stopped}
 use Rattle.semantics.specs.declared.state.Stop.TheVariants.{NotHeld}
+use Rattle.semantics_machine.specs.{Refinement.queued, inner.Steps.{AreShared, IsPerformed}}
+use Rattle.semantics_machine.proofs.Performed.{leaves, waits_on, cannot_wait, room_for, owns_number, owner_is, owner_is_not}
+use Rattle.semantics_machine.proofs.Queues.{recelled}
 use Rattle.semantics_machine.proofs.control.Control.begin_wait.Goals as goal
 
 pub returns-then-self-mutex : goal.returns-then-self-mutex

@@ -1,9 +1,8 @@
 use Rattle.std.proofs.Common.{arith, rules, ◌≡◌, ◌<◌, ◌-◌, ◌∙◌, length, length-set, refl, sym, subst, ap, drop, [], get_or, set, get_or-set_same}
-use Rattle.std.specs.Int.{w64}
-use Rattle.std.proofs.lemmas.Int.{to_z-of_z}
+use Rattle.std.{specs.Int.w64, proofs.lemmas.Int.to_z-of_z}
 use Rattle.semantics_machine.specs.inner.Steps.{AreShared}
-use Rattle.semantics_machine.proofs.Queues.{unqueued, first_queued}
 use Rattle.semantics_machine.proofs.Performed.{calling_start, calling_state, calling_next, calling_done, few_wait, called_waits, called_apart, called_below}
+use Rattle.semantics_machine.proofs.Queues.{unqueued, first_queued}
 use Rattle.semantics_machine.proofs.control.Control.broadcast.Goals as goal
 
 pub loop-self-init : goal.loop-self-init

@@ -1,13 +1,11 @@
 use Rattle.std.proofs.Common.{◌≡◌, ◌<◌, ◌∙◌, sym, subst, ap, get_or, length}
+use Rattle.semantics.specs.Machine.{can_do, action_of}
 use Rattle.semantics.specs.declared.local.Turn.TheVariants.{Takes, Visible}
 use Rattle.guest_code.specs.declared.program.Instruction.TheVariants.{Load}
-use Rattle.semantics.specs.Machine.{can_do, action_of}
 use Rattle.semantics_machine.specs.inner.Steps.{Faces}
-use Rattle.semantics_machine.proofs.Landings.{faces_visible}
-use Rattle.semantics_machine.proofs.Lists.{read_at}
-use Rattle.semantics_machine.proofs.Runs.{visible_inside}
-use Rattle.semantics_machine.proofs.control.Control.can_step.Goals as goal
+use Rattle.semantics_machine.proofs.{Landings.faces_visible, Lists.read_at, Runs.visible_inside}
 use Rattle.semantics_machine.proofs.control.Control.can_step.Goals.{In-Takes}
+use Rattle.semantics_machine.proofs.control.Control.can_step.Goals as goal
 
 inside : (c : In-Takes) → c.args.place < length c.args.code.now
 inside c = visible_inside c.args.place c.requires.turn.0 c.args.code.now Takes

@@ -1,9 +1,7 @@
 use Rattle.std.proofs.Common.{arith, ap, subst}
 use Rattle.guest_code.specs.Program.{IsValid}
-use Rattle.semantics.specs.declared.state.MutexAction.TheVariants.{Lock as Locks}
-use Rattle.semantics.specs.Machine.{action_of}
-use Rattle.semantics_machine.specs.inner.Parts.{IsLeaving}
-use Rattle.semantics_machine.proofs.Performed.{locks, acquires}
+use Rattle.semantics.specs.{Machine.action_of, declared.state.MutexAction.TheVariants.Lock as Locks}
+use Rattle.semantics_machine.{specs.inner.Parts.IsLeaving, proofs.Performed.{locks, acquires}}
 use Rattle.semantics_machine.proofs.control.Control.perform.Goals as goal
 
 pub returns-in-Lock : goal.returns-in-Lock

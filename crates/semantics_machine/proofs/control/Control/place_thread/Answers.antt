@@ -1,7 +1,6 @@
 use Rattle.std.proofs.Common.{arith, subst, slice_get}
 use Rattle.semantics.specs.Machine.{action_at}
-use Rattle.semantics_machine.specs.inner.Parts.{Stands}
-use Rattle.semantics_machine.proofs.Landings.{landed}
+use Rattle.semantics_machine.{specs.inner.Parts.Stands, proofs.Landings.landed}
 use Rattle.semantics_machine.proofs.control.Control.place_thread.Goals as goal
 
 pub returns-clause-lands : goal.returns-clause-lands

@@ -1,7 +1,6 @@
 use Rattle.std.proofs.Common.{arith, ap, sym, subst, true, set, get_or, nat_lt}
 use Rattle.guest_code.specs.Program.{IsValid}
-use Rattle.semantics.specs.declared.state.MutexAction.TheVariants.{Lock as Locks}
-use Rattle.semantics.specs.Machine.{action_of}
+use Rattle.semantics.specs.{Machine.action_of, declared.state.MutexAction.TheVariants.Lock as Locks}
 use Rattle.semantics_machine.specs.inner.Parts.{Stands}
 use Rattle.semantics_machine.proofs.Landings.{stands_at_semaphore, stands_at_none, plain_else}
 use Rattle.semantics_machine.proofs.control.Control.register_lock_or_acquire.Goals as goal

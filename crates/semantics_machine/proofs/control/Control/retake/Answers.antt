@@ -1,9 +1,8 @@
 use Rattle.std.proofs.Common.{arith, ◌∙◌, ap, subst}
 use Rattle.guest_code.specs.Program.{IsValid}
-use Rattle.semantics.specs.declared.state.MutexAction.TheVariants.{Retake as Retakes}
 use Rattle.semantics.specs.Machine.{retake_of}
-use Rattle.semantics_machine.proofs.Objects.{leaving}
-use Rattle.semantics_machine.proofs.Performed.{retakes}
+use Rattle.semantics.specs.declared.state.MutexAction.TheVariants.{Retake as Retakes}
+use Rattle.semantics_machine.proofs.{Objects.leaving, Performed.retakes}
 use Rattle.semantics_machine.proofs.control.Control.retake.Goals as goal
 
 pub returns-in-Wait : goal.returns-in-Wait

@@ -1,15 +1,12 @@
 use Rattle.std.proofs.Common.{arith, true, false, ◌≡◌, ◌∙◌, sym, subst, ap, refl, length, List, rules}
 use Rattle.std.proofs.lemmas.Bool.{and_left, and_parts}
-use Rattle.guest_code.specs.declared.program.Instruction.{Instruction}
+use Rattle.guest_code.specs.{Program.code_of, declared.program.Instruction.Instruction}
 use Rattle.guest_code.specs.declared.program.Instruction.TheVariants.{Load}
-use Rattle.guest_code.specs.Program.{code_of}
 use Rattle.semantics.proofs.WorkFalls.{enabled_below}
-use Rattle.semantics_machine.specs.inner.Runs.{run_to, IsGoing}
-use Rattle.semantics_machine.specs.inner.Steps.{going_on}
-use Rattle.semantics_machine.proofs.Landings.{arrived}
-use Rattle.semantics_machine.proofs.LocalRuns.{lands_there}
-use Rattle.semantics_machine.proofs.WholeSteps.{here_inside, finished}
+use Rattle.semantics_machine.specs.inner.{Runs.{run_to, IsGoing}, Steps.going_on}
+use Rattle.semantics_machine.proofs.{Landings.arrived, LocalRuns.lands_there}
 use Rattle.semantics_machine.proofs.Runs.{begun, last_enabled, run_over, comes_further}
+use Rattle.semantics_machine.proofs.WholeSteps.{here_inside, finished}
 use Rattle.semantics_machine.proofs.control.Control.run.Goals as goal
 
 pub loop-going-init : goal.loop-going-init

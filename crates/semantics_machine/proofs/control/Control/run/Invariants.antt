@@ -1,8 +1,6 @@
 use Rattle.std.proofs.Common.{◌≡◌, ◌+◌, ◌*◌, ◌-◌, cond, true, false, length}
-use Rattle.semantics.specs.declared.state.Status.TheVariants.{Running}
-use Rattle.semantics.specs.Machine.{Snapshot}
-use Rattle.semantics_machine.specs.inner.Runs.{IsGoing, RunsAmong}
-use Rattle.semantics_machine.specs.inner.Steps.{IsReadyIn}
+use Rattle.semantics.specs.{Machine.Snapshot, declared.state.Status.TheVariants.Running}
+use Rattle.semantics_machine.specs.inner.{Runs.{IsGoing, RunsAmong}, Steps.IsReadyIn}
 use Rattle.semantics_machine.proofs.control.Control.run.Given as goal
 
 abbrev pub invariant-loop-going : goal.invariant-loop-going

@@ -1,10 +1,9 @@
 use Rattle.std.proofs.Common.{arith, ◌≡◌, true, length}
 use Rattle.semantics.specs.Machine.{Snapshot, is_enabled}
-use Rattle.semantics_machine.specs.Refinement.{IsState}
-use Rattle.semantics_machine.specs.inner.Runs.{IsRunTo}
+use Rattle.semantics_machine.specs.{Refinement.IsState, inner.Runs.IsRunTo}
 use Rattle.semantics_machine.proofs.Values.{begins, all_inside, ready, slice_is, slice_length, slice_written, shows_after, size_after}
-use Rattle.semantics_machine.proofs.control.Control.run_on_values.Goals as goal
 use Rattle.semantics_machine.proofs.control.Control.run_on_values.Goals.{After-run}
+use Rattle.semantics_machine.proofs.control.Control.run_on_values.Goals as goal
 
 pub slice_bounds-run-end : goal.slice_bounds-run-end
 slice_bounds-run-end c =

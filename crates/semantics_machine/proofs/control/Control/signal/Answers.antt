@@ -1,10 +1,9 @@
 use Rattle.std.proofs.Common.{arith, rules, ◌<◌, ◌∙◌, length, drop, refl, sym, subst, set}
+use Rattle.std.{specs.Int.w64, proofs.lemmas.Int.to_z-of_z}
 use Rattle.semantics.specs.Machine.{queue_of}
-use Rattle.std.specs.Int.{w64}
-use Rattle.std.proofs.lemmas.Int.{to_z-of_z}
 use Rattle.semantics_machine.specs.inner.Steps.{AreShared}
-use Rattle.semantics_machine.proofs.Queues.{unqueued, first_queued}
 use Rattle.semantics_machine.proofs.Performed.{leaves, signals, signals_nobody, first_waits, first_apart, first_below, few_wait}
+use Rattle.semantics_machine.proofs.Queues.{unqueued, first_queued}
 use Rattle.semantics_machine.proofs.control.Control.signal.Goals as goal
 
 pub returns-then-self-c-gt0 : goal.returns-then-self-c-gt0

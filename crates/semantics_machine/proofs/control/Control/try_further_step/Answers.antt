@@ -1,7 +1,6 @@
 use Rattle.std.proofs.Common.{arith, refl}
 use Rattle.guest_code.specs.declared.program.Instruction.TheVariants.{Load}
-use Rattle.semantics_machine.specs.inner.Runs.{run_to}
-use Rattle.semantics_machine.proofs.Runs.{poised_going, going_further}
+use Rattle.semantics_machine.{specs.inner.Runs.run_to, proofs.Runs.{poised_going, going_further}}
 use Rattle.semantics_machine.proofs.control.Control.try_further_step.Goals as goal
 
 pub perform-status-requires-clause-ready : goal.perform-status-requires-clause-ready

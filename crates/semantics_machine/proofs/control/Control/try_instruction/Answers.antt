@@ -1,8 +1,7 @@
 use Rattle.std.proofs.Common.{arith, ◌≡◌, ◌∙◌, refl}
-use Rattle.semantics_machine.proofs.LocalRuns.{kept}
-use Rattle.semantics_machine.proofs.Runs.{going_locally, going_kept}
-use Rattle.semantics_machine.proofs.control.Control.try_instruction.Goals as goal
+use Rattle.semantics_machine.proofs.{LocalRuns.kept, Runs.{going_locally, going_kept}}
 use Rattle.semantics_machine.proofs.control.Control.try_instruction.Goals.{In_default}
+use Rattle.semantics_machine.proofs.control.Control.try_instruction.Goals as goal
 
 pub can_step-requires : goal.can_step-requires
 can_step-requires c = record {

@@ -1,9 +1,7 @@
 use Rattle.std.proofs.Common.{replicate, sym, subst}
 use Rattle.semantics.specs.Machine.{start}
-use Rattle.semantics_machine.specs.declared.control.Control.{Control}
-use Rattle.semantics_machine.specs.declared.control.TheConstants.{FREE}
-use Rattle.semantics_machine.specs.inner.Opening.{IsOpenedTo}
-use Rattle.semantics_machine.proofs.Openings.{unbegun_is}
+use Rattle.semantics_machine.specs.declared.control.{Control.Control, TheConstants.FREE}
+use Rattle.semantics_machine.{specs.inner.Opening.IsOpenedTo, proofs.Openings.unbegun_is}
 use Rattle.semantics_machine.proofs.control.Control.without_threads.Goals as goal
 
 pub returns : goal.returns

@@ -1,7 +1,6 @@
 use Rattle.std.proofs.Common.{sym, ◌∙◌, ap}
-use Rattle.semantics_machine.proofs.Landings.{free_there}
+use Rattle.semantics_machine.{specs.inner.Steps.going_on, proofs.Landings.free_there}
 use Rattle.semantics_machine.proofs.LocalRuns.{stays}
-use Rattle.semantics_machine.specs.inner.Steps.{going_on}
 use Rattle.semantics_machine.proofs.control.steps.land.Goals as goal
 
 pub returns-in-Running-clause-free : goal.returns-in-Running-clause-free

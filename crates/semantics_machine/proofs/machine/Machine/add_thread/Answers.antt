@@ -1,7 +1,6 @@
 use Rattle.std.proofs.Common.{arith, ℤ, ◌≡◌, ◌<◌, ◌∙◌, length, take, refl, ap, List}
-use Rattle.guest_code.specs.declared.limits.TheConstants.{LOCALS}
-use Rattle.guest_code.specs.declared.program.Instruction.{Instruction}
 use Rattle.std.proofs.lemmas.List.{length-take-le}
+use Rattle.guest_code.specs.declared.{limits.TheConstants.LOCALS, program.Instruction.Instruction}
 use Rattle.semantics.specs.Machine.{Snapshot, thread_at}
 use Rattle.semantics_machine.proofs.Openings.{opening_more, opening_room}
 use Rattle.semantics_machine.proofs.machine.Machine.add_thread.Goals as goal

@@ -1,11 +1,10 @@
 use Rattle.std.proofs.Common.{◌≡◌, ◌≢◌, ◌||◌, ◌∙◌, ℕ, nat_lt, length, true, false, refl, ap, sym, arith, inl, inr, rules}
 use Rattle.std.proofs.lemmas.Bool.{cases_order}
-use Rattle.semantics.specs.Mask.{has}
+use Rattle.semantics.{specs.Mask.has, proofs.Masks.{is_mask_of, none_left, members-without_first}}
 use Rattle.semantics_schedules.specs.Sleep.{next_sleep_set}
-use Rattle.semantics.proofs.Masks.{is_mask_of, none_left, members-without_first}
 use Rattle.semantics_machine.proofs.Sleepers.{enabled_are, both_true, asleep_where, untried, touches_apart}
-use Rattle.semantics_machine.proofs.machine.Machine.sleep_set_after.Goals as goal
 use Rattle.semantics_machine.proofs.machine.Machine.sleep_set_after.Goals.{then-not-is_independent_of, else-not-is_independent_of}
+use Rattle.semantics_machine.proofs.machine.Machine.sleep_set_after.Goals as goal
 
 pub returns-then-is_empty : goal.returns-then-is_empty
 returns-then-is_empty c = λ s shows on.

@@ -1,6 +1,5 @@
 use Rattle.std.proofs.Common.{◌≡◌, ◌≢◌, ◌<◌, ◌^◌, ◌&&◌, ◌||◌, ℕ, nat_lt, length, true, false}
-use Rattle.semantics.specs.Machine.{Snapshot, is_enabled}
-use Rattle.semantics.specs.Mask.{has, members_from}
+use Rattle.semantics.specs.{Machine.{Snapshot, is_enabled}, Mask.{has, members_from}}
 use Rattle.semantics_schedules.specs.Sleep.{next_sleep_set}
 use Rattle.semantics_machine.specs.Refinement.{Shows}
 use Rattle.semantics_machine.proofs.machine.Machine.sleep_set_after.Given as goal

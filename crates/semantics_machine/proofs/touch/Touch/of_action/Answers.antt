@@ -1,6 +1,5 @@
 use Rattle.std.proofs.Common.{◌+◌, ◌*◌, ◌∙◌, Some, ap, sym}
-use Rattle.semantics_machine.specs.Touches.{touch_of}
-use Rattle.semantics_machine.proofs.TouchBits.{one_written, two_written}
+use Rattle.semantics_machine.{specs.Touches.touch_of, proofs.TouchBits.{one_written, two_written}}
 use Rattle.semantics_machine.proofs.touch.Touch.of_action.Goals as goal
 
 pub returns-in-OnMutex : goal.returns-in-OnMutex

@@ -1,8 +1,7 @@
 use Rattle.std.proofs.Common.{◌≡◌, ◌*◌, ◌∙◌, ℕ, Some, ap, sym}
-use Rattle.semantics.specs.declared.state.VariableAction.{VariableAction}
 use Rattle.semantics.specs.declared.state.Action.TheVariants.{OnVariable}
-use Rattle.semantics_machine.specs.declared.touch.Touch.{Touch}
-use Rattle.semantics_machine.specs.Touches.{touch_of}
+use Rattle.semantics.specs.declared.state.VariableAction.{VariableAction}
+use Rattle.semantics_machine.specs.{Touches.touch_of, declared.touch.Touch.Touch}
 use Rattle.semantics_machine.proofs.TouchBits.{one_written, one_read}
 use Rattle.semantics_machine.proofs.touch.Touch.of_variable.Goals as goal
 

@@ -1,6 +1,5 @@
 use Rattle.std.proofs.Common.{◌+◌, ap, ◌∙◌}
-use Rattle.semantics.specs.Machine.{step}
-use Rattle.semantics.specs.Mask.{one_if}
+use Rattle.semantics.specs.{Machine.step, Mask.one_if}
 use Rattle.semantics_schedules.specs.Execution.{ExecutionView}
 use Rattle.semantics_schedules.proofs.Executions.{reaches_parts, from_bool_is}
 use Rattle.semantics_schedules.proofs.execution.Execution.step.Goals as goal

@@ -1,8 +1,7 @@
-use Rattle.std.proofs.lemmas.List.Elements.{All-map}
 use Rattle.std.proofs.Common.{◌≤◌}
+use Rattle.std.proofs.lemmas.List.Elements.{All-map}
 use Rattle.guest_code.specs.declared.limits.TheConstants.{COUNT}
-use Rattle.semantics.specs.Machine.{start}
-use Rattle.semantics.proofs.StepsKeepStates.{start_is_of}
+use Rattle.semantics.{specs.Machine.start, proofs.StepsKeepStates.start_is_of}
 use Rattle.semantics_schedules.proofs.RunsKeepStates.{run_is_of}
 use Rattle.semantics_schedules.proofs.laws.reachable.schedules_stay_in_the_program.Goals as goal
 

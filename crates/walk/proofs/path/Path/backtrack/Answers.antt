@@ -1,7 +1,6 @@
 use Rattle.std.proofs.Common.{◌≡◌, arith, subst}
 use Rattle.guest_code.specs.Program.{Program}
-use Rattle.walk.specs.inner.WalkerInvariant.{IsPlace, still_open}
-use Rattle.walk.proofs.Expansions.{popped_search}
+use Rattle.walk.{specs.inner.WalkerInvariant.{IsPlace, still_open}, proofs.Expansions.popped_search}
 use Rattle.walk.proofs.path.Path.backtrack.Goals as goal
 
 pub returns-clause-search : goal.returns-clause-search

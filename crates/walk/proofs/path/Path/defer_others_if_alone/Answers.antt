@@ -1,16 +1,12 @@
 use Rattle.std.proofs.Common.{◌≡◌, ◌++◌, ◌∷◌, [], ℕ, List, map, take, sym, subst, ◌∙◌, ◌&&◌, ap}
 use Rattle.std.proofs.Common.{refl, arith}
 use Rattle.std.proofs.lemmas.List.{take_at}
-use Rattle.semantics.proofs.WorkFalls.{enabled_below}
-use Rattle.semantics.specs.Mask.{has, members_from}
+use Rattle.semantics.{specs.Mask.{has, members_from}, proofs.WorkFalls.enabled_below}
 use Rattle.walk.specs.inner.Paths.{state_at}
-use Rattle.walk.specs.inner.WalkerInvariant.{at_bound, here, left_above, HasPut}
-use Rattle.walk.specs.inner.WalkerInvariant.{IsShared}
-use Rattle.walk.proofs.PathSteps.{path_same}
-use Rattle.walk.proofs.SharedSteps.{popped}
+use Rattle.walk.specs.inner.WalkerInvariant.{at_bound, here, left_above, HasPut, IsShared}
 use Rattle.walk.proofs.Expansions.{within_at, turned_here, below_turns}
 use Rattle.walk.proofs.LoneSteps.{lone_search, and_right, free_alone}
-use Rattle.walk.proofs.WalkSteps.{first_on}
+use Rattle.walk.proofs.{PathSteps.path_same, SharedSteps.popped, WalkSteps.first_on}
 use Rattle.walk.proofs.path.Path.defer_others_if_alone.Goals as goal
 
 pub with-others-requires : goal.with-others-requires

@@ -3,13 +3,11 @@ use Rattle.std.proofs.lemmas.List.Elements.{All-tail, All-head}
 use Rattle.guest_code.specs.Program.{Program}
 use Rattle.semantics.specs.Machine.{start, is_enabled}
 use Rattle.semantics_schedules.specs.Schedules.{runs}
+use Rattle.walk.specs.inner.{Paths.state_at, WalkerInvariant.{here, left_above, turns_left}}
 use Rattle.walk.proofs.Expansions.{child_enabled}
-use Rattle.walk_items.specs.Items.{IsItem}
-use Rattle.walk.specs.inner.Paths.{state_at}
-use Rattle.walk_items.specs.Children.{children_of, child_of, costs}
-use Rattle.walk.specs.inner.WalkerInvariant.{here, left_above, turns_left}
-use Rattle.walk_items.proofs.Turns.{cost_two}
 use Rattle.walk.proofs.path.Path.drain_or_pop.Goals as goal
+use Rattle.walk_items.specs.{Children.{children_of, child_of, costs}, Items.IsItem}
+use Rattle.walk_items.proofs.Turns.{cost_two}
 
 pub returns-in_ok-push-in-Some-clause-items : goal.returns-in_ok-push-in-Some-clause-items
 returns-in_ok-push-in-Some-clause-items c =

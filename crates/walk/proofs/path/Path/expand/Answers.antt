@@ -1,13 +1,9 @@
 use Rattle.std.proofs.Common.{◌≡◌, ◌∙◌, ◌+◌, ◌≤◌, [], ap, refl, sym, subst}
-use Rattle.std.specs.List.{filter}
-use Rattle.std.proofs.lemmas.Bool.{false≢true}
-use Rattle.semantics.specs.Ends.{is_empty}
-use Rattle.semantics.specs.Mask.{members_from}
-use Rattle.walk.specs.inner.Paths.{state_at}
-use Rattle.walk.specs.inner.WalkerInvariant.{is_kept_at}
+use Rattle.std.{specs.List.filter, proofs.lemmas.Bool.false≢true}
+use Rattle.semantics.specs.{Ends.is_empty, Mask.members_from}
+use Rattle.walk.specs.inner.{Paths.state_at, WalkerInvariant.is_kept_at}
+use Rattle.walk.proofs.Expansions.{turned_here, expanded_node, expanded_leaf, falls_node, falls_leaf, tried_added, place_turned}
 use Rattle.walk.proofs.WalkTurns.{members_chosen}
-use Rattle.walk.proofs.Expansions.{turned_here, expanded_node, expanded_leaf, falls_node, falls_leaf}
-use Rattle.walk.proofs.Expansions.{tried_added, place_turned}
 use Rattle.walk.proofs.path.Path.expand.Goals as goal
 
 pub expand-requires : goal.expand-requires

@@ -1,12 +1,9 @@
 use Rattle.std.proofs.Common.{◌≡◌, arith, ◌+◌, ◌∙◌, ◌<◌, ◌≤◌, ◌++◌, ◌&&◌, ℕ, Bool, true, false}
 use Rattle.std.proofs.Common.{List, replicate, refl, ap}
-use Rattle.semantics.specs.Machine.{is_enabled}
-use Rattle.semantics.specs.Mask.{HasEnabled, one_if}
-use Rattle.semantics_schedules.specs.Schedules.{preempts}
-use Rattle.semantics_schedules.proofs.Executions.{reaches_few}
+use Rattle.semantics.specs.{Machine.is_enabled, Mask.{HasEnabled, one_if}}
+use Rattle.semantics_schedules.{specs.Schedules.preempts, proofs.Executions.reaches_few}
 use Rattle.semantics_schedules.proofs.ScheduleLengths.{schedule_within}
-use Rattle.walk.specs.inner.Paths.{state_at}
-use Rattle.walk.specs.inner.WalkerInvariant.{at_bound}
+use Rattle.walk.specs.inner.{Paths.state_at, WalkerInvariant.at_bound}
 use Rattle.walk.proofs.PathSteps.{left_extended, preempts_is}
 use Rattle.walk.proofs.RunSteps.{run_reaches, run_enabled, run_on, run_front, path_extended}
 use Rattle.walk.proofs.path.Path.extend.Goals as goal

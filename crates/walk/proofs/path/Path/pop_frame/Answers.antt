@@ -1,7 +1,6 @@
 use Rattle.std.proofs.Common.{◌≤◌, ◌+◌, ◌-◌, ◌≡◌, ◌∙◌, arith, ap, sym}
 use Rattle.walk_items.specs.Children.{costs}
-use Rattle.walk.specs.inner.WalkerInvariant.{turns_left}
-use Rattle.walk.proofs.PathSteps.{open_done}
+use Rattle.walk.{specs.inner.WalkerInvariant.turns_left, proofs.PathSteps.open_done}
 use Rattle.walk.proofs.path.Path.pop_frame.Goals as goal
 
 pub returns-clause-same : goal.returns-clause-same

@@ -1,7 +1,6 @@
-use Rattle.std.proofs.Common.{arith, ◌≡◌, ◌∙◌, ◌+◌, ◌-◌, ◌*◌, ◌<◌, length, refl, ap, sym}
-use Rattle.std.proofs.Common.{subst, take, drop}
-use Rattle.std.proofs.Math.Path.{transport}
-use Rattle.std.proofs.lemmas.List.{get_or_default, take-take, get_or-take}
+use Rattle.std.proofs.Common.{arith, ◌≡◌, ◌∙◌, ◌+◌, ◌-◌, ◌*◌, ◌<◌, length, refl, ap, sym, subst}
+use Rattle.std.proofs.Common.{take, drop}
+use Rattle.std.proofs.{Math.Path.transport, lemmas.List.{get_or_default, take-take, get_or-take}}
 use Rattle.semantics_machine.specs.Refinement.{Shows, IsShown}
 use Rattle.walk.specs.declared.path.Frame.{Frame}
 use Rattle.walk.specs.inner.Paths.{used_frames, words_at, state_at, frame_at, no_frame}

@@ -1,11 +1,10 @@
-use Rattle.std.proofs.Common.{arith, ◌≡◌, ◌∙◌, ◌+◌, ◌-◌, ◌*◌, ◌++◌, ◌∷◌, [], ◌≤◌, List}
-use Rattle.std.proofs.Common.{length, refl, ap, sym, subst, take, drop, length-set}
+use Rattle.std.proofs.Common.{arith, ◌≡◌, ◌∙◌, ◌+◌, ◌-◌, ◌*◌, ◌++◌, ◌∷◌, [], ◌≤◌, List, length}
+use Rattle.std.proofs.Common.{refl, ap, sym, subst, take, drop, length-set}
 use Rattle.std.proofs.lemmas.List.{length-append, take_more_set}
 use Rattle.std.proofs.lemmas.Slice.{take-put_mid_below, drop-put_mid, between-put_mid}
-use Rattle.walk.proofs.Words.{chunk_length, refill_rewrites, refill_length, chunk_is, Rewrites}
-use Rattle.walk.specs.declared.path.Frame.{Frame}
-use Rattle.walk.specs.inner.Paths.{AreCopies, used_frames}
+use Rattle.walk.specs.{declared.path.Frame.Frame, inner.Paths.{AreCopies, used_frames}}
 use Rattle.walk.proofs.PathSteps.{copies_words, path_words, path_pushed, left_pushed}
+use Rattle.walk.proofs.Words.{chunk_length, refill_rewrites, refill_length, chunk_is, Rewrites}
 use Rattle.walk.proofs.path.Path.push_frame.Goals as goal
 
 pub returns-in_err-grow_words-clause-path : goal.returns-in_err-grow_words-clause-path

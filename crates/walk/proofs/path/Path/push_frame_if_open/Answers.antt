@@ -1,7 +1,6 @@
 use Rattle.std.proofs.Common.{refl, sym, arith}
 use Rattle.std.proofs.lemmas.Result.{on_ok_weaker}
-use Rattle.walk.proofs.PathSteps.{open_done}
-use Rattle.walk.proofs.Expansions.{pushed_place, pushed_if_open}
+use Rattle.walk.proofs.{Expansions.{pushed_place, pushed_if_open}, PathSteps.open_done}
 use Rattle.walk.proofs.path.Path.push_frame_if_open.Goals as goal
 
 pub returns-in-Some-clause-place : goal.returns-in-Some-clause-place

@@ -1,8 +1,7 @@
 use Rattle.std.proofs.Common.{◌≡◌, ◌∙◌, true, ap, sym, subst, get_or}
 use Rattle.std.proofs.lemmas.Result.{on_ok_weaker}
 use Rattle.semantics.specs.Machine.{Snapshot, start, is_enabled}
-use Rattle.semantics_schedules.specs.Schedules.{state_after}
-use Rattle.semantics_schedules.proofs.Executions.{runs_at}
+use Rattle.semantics_schedules.{specs.Schedules.state_after, proofs.Executions.runs_at}
 use Rattle.walk.proofs.RunWalks.{way_more}
 use Rattle.walk.proofs.path.Path.replay_step.Goals as goal
 

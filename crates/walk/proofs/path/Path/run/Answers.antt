@@ -1,7 +1,6 @@
 use Rattle.std.proofs.Common.{ℕ, List, length, true, false, ap, arith, rules}
 use Rattle.semantics_schedules.proofs.ScheduleLengths.{schedule_within}
-use Rattle.walk.specs.inner.WalkerInvariant.{turns_next}
-use Rattle.walk.proofs.Expansions.{next_is}
+use Rattle.walk.{specs.inner.WalkerInvariant.turns_next, proofs.Expansions.next_is}
 use Rattle.walk.proofs.path.Path.run.Goals as goal
 
 pub take_run-requires : goal.take_run-requires

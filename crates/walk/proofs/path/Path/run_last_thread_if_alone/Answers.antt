@@ -1,8 +1,6 @@
 use Rattle.std.proofs.Common.{true, false}
 use Rattle.walk.specs.inner.WalkerInvariant.{here, left_above}
-use Rattle.walk.proofs.WalkSteps.{first_on}
-use Rattle.walk.proofs.Expansions.{within_at, next_is}
-use Rattle.walk.proofs.LoneSteps.{free_first}
+use Rattle.walk.proofs.{Expansions.{within_at, next_is}, LoneSteps.free_first, WalkSteps.first_on}
 use Rattle.walk.proofs.path.Path.run_last_thread_if_alone.Goals as goal
 
 pub run-requires : goal.run-requires

@@ -1,8 +1,6 @@
 use Rattle.std.proofs.Common.{◌≡◌, sym, subst}
-use Rattle.walk_items.specs.declared.mode.Mode.{Mode}
-use Rattle.walk.specs.inner.Paths.{state_at}
-use Rattle.walk_items.specs.Children.{mask_after}
-use Rattle.walk.specs.inner.WalkerInvariant.{here}
+use Rattle.walk_items.specs.{Children.mask_after, declared.mode.Mode.Mode}
+use Rattle.walk.specs.inner.{Paths.state_at, WalkerInvariant.here}
 use Rattle.walk.proofs.path.Path.sleepers.Goals as goal
 
 pub returns-in-Reduced : goal.returns-in-Reduced

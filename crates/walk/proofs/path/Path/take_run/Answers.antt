@@ -1,21 +1,18 @@
 use Rattle.std.proofs.Common.{◌≡◌, ◌<◌, ◌≤◌, ◌+◌, ◌++◌, ◌∷◌, ◌∙◌, [], ℕ, List, true, false, length}
 use Rattle.std.proofs.Common.{take, map, refl, ap, sym, subst, arith, rules}
 use Rattle.guest_code.specs.Program.{Program}
-use Rattle.semantics.specs.Machine.{is_enabled}
-use Rattle.semantics.specs.Mask.{members_from}
+use Rattle.semantics.specs.{Machine.is_enabled, Mask.members_from}
 use Rattle.semantics.proofs.WorkFalls.{enabled_below}
 use Rattle.walk_items.specs.Children.{mask_after, cost_of}
-use Rattle.walk.specs.declared.path.Path.{Path}
-use Rattle.walk.specs.inner.Paths.{state_at, IsPath}
+use Rattle.walk.specs.{declared.path.Path.Path, inner.Paths.{state_at, IsPath}}
 use Rattle.walk.specs.inner.WalkerInvariant.{left_above, here, item_of, IsExtended, IsAlong}
 use Rattle.walk.specs.inner.WalkerInvariant.{IsShared, HasPut}
-use Rattle.walk.proofs.Expansions.{search_enabled}
-use Rattle.walk.proofs.LoneSteps.{or_left, left_so}
-use Rattle.walk.proofs.RunWalks.{along_begun, along_next, along_falls, same_path}
-use Rattle.walk.proofs.RunWalks.{run_further, more_at, node_at, on_at, among_at, of_at, bound_at}
-use Rattle.walk.proofs.RunWalks.{alone_at, noted_all, run_searched, run_falls}
-use Rattle.walk.proofs.path.Path.take_run.Goals as goal
+use Rattle.walk.proofs.{Expansions.search_enabled, LoneSteps.{or_left, left_so}}
+use Rattle.walk.proofs.RunWalks.{along_begun, along_next, along_falls, same_path, run_further}
+use Rattle.walk.proofs.RunWalks.{more_at, node_at, on_at, among_at, of_at, bound_at, alone_at}
+use Rattle.walk.proofs.RunWalks.{noted_all, run_searched, run_falls}
 use Rattle.walk.proofs.path.Path.take_run.Goals.{After-is_at_bound}
+use Rattle.walk.proofs.path.Path.take_run.Goals as goal
 
 pub sleepers-asleep-requires-clause-enabled : goal.sleepers-asleep-requires-clause-enabled
 sleepers-asleep-requires-clause-enabled c =

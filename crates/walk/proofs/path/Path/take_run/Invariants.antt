@@ -1,7 +1,6 @@
 use Rattle.std.proofs.Common.{◌≡◌, ◌≤◌, ◌+◌, take, length}
 use Rattle.walk_items.specs.Children.{cost_of}
-use Rattle.walk.specs.declared.found.Found.{Found}
-use Rattle.walk.specs.inner.WalkerInvariant.{item_of, IsAlong}
+use Rattle.walk.specs.{declared.found.Found.Found, inner.WalkerInvariant.{item_of, IsAlong}}
 use Rattle.walk.proofs.path.Path.take_run.Given as goal
 
 abbrev pub invariant-loop-place : goal.invariant-loop-place

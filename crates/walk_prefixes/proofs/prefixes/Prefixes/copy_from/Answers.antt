@@ -1,7 +1,6 @@
 use Rattle.std.proofs.Common.{rules, ◌≡◌, ◌+◌, ◌≤◌, refl, ap, ◌∙◌, arith, length, false, inl, vec_len, vec_capacity}
-use Rattle.walk_prefixes.specs.inner.Packed.{listed}
+use Rattle.walk_prefixes.{specs.inner.Packed.listed, proofs.ListFields.with_room}
 use Rattle.walk_prefixes.proofs.PackedPrefixes.{if_ok, listed_none}
-use Rattle.walk_prefixes.proofs.ListFields.{with_room}
 use Rattle.walk_prefixes.proofs.prefixes.Prefixes.copy_from.Goals as goal
 
 pub invariant_of-self : goal.invariant_of-self

@@ -1,6 +1,5 @@
 use Rattle.std.proofs.Common.{refl, arith, false, length, ap, inl}
-use Rattle.walk_prefixes.specs.inner.Packed.{listed}
-use Rattle.walk_prefixes.proofs.PackedPrefixes.{listed_none}
+use Rattle.walk_prefixes.{specs.inner.Packed.listed, proofs.PackedPrefixes.listed_none}
 use Rattle.walk_prefixes.proofs.prefixes.Prefixes.new.Goals as goal
 
 pub invariant_of-result : goal.invariant_of-result

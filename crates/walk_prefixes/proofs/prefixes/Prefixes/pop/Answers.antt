@@ -1,8 +1,7 @@
 use Rattle.std.proofs.Common.{rules, ◌≡◌, ◌-◌, true, false, cond, take, drop, refl, sym, ◌∙◌, ap, arith, vec_capacity}
 use Rattle.std.proofs.lemmas.List.{take_rest}
-use Rattle.walk_prefixes.specs.inner.Packed.{removed_of}
+use Rattle.walk_prefixes.{specs.inner.Packed.removed_of, proofs.ListFields.{came, gone_of}}
 use Rattle.walk_prefixes.proofs.PackedPrefixes.{went_well, packed_before, packed_pop, packed_more, CameOff, stands_some, stands_on, stands_last, counts_back}
-use Rattle.walk_prefixes.proofs.ListFields.{came, gone_of}
 use Rattle.walk_prefixes.proofs.prefixes.Prefixes.pop.Goals as goal
 
 off_last : (c : goal.Then-not-top) → CameOff c.loop-self.self-inside.front c.loop-self.self-inside.bytes.items

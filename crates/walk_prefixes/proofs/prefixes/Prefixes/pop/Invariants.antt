@@ -1,6 +1,5 @@
 use Rattle.std.proofs.Common.{◌≤◌, take, drop, length, vec_capacity}
-use Rattle.walk_prefixes.specs.inner.Packed.{IsCounted}
-use Rattle.walk_prefixes.proofs.PackedPrefixes.{Stands}
+use Rattle.walk_prefixes.{specs.inner.Packed.IsCounted, proofs.PackedPrefixes.Stands}
 use Rattle.walk_prefixes.proofs.prefixes.Prefixes.pop.Given as goal
 
 abbrev pub invariant-loop-self : goal.invariant-loop-self

@@ -1,6 +1,5 @@
 use Rattle.std.proofs.Common.{◌≡◌, take, sym, ◌∙◌, ap, arith}
-use Rattle.walk_prefixes.proofs.PackedPrefixes.{taken_after}
-use Rattle.walk_prefixes.proofs.ListFields.{none_in, last_in}
+use Rattle.walk_prefixes.proofs.{ListFields.{none_in, last_in}, PackedPrefixes.taken_after}
 use Rattle.walk_prefixes.proofs.prefixes.Prefixes.push.Goals as goal
 
 pub push_first-requires : goal.push_first-requires

@@ -1,6 +1,5 @@
 use Rattle.std.proofs.Common.{◌∙◌}
-use Rattle.walk_summary.specs.Summaries.{counted_if, end_with}
-use Rattle.walk_summary.proofs.SumsJoin.{parts_kept}
+use Rattle.walk_summary.{specs.Summaries.{counted_if, end_with}, proofs.SumsJoin.parts_kept}
 use Rattle.walk_summary.proofs.summary.Summary.add_cold.Goals as goal
 
 pub invariant_of-self-2 : goal.invariant_of-self-2

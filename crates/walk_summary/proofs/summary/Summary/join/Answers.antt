@@ -1,6 +1,5 @@
 use Rattle.std.proofs.Common.{◌∙◌, ◌++◌}
-use Rattle.walk_summary.specs.Summaries.{sorted_views}
-use Rattle.walk_summary.proofs.SumsJoin.{parts_joined}
+use Rattle.walk_summary.{specs.Summaries.sorted_views, proofs.SumsJoin.parts_joined}
 use Rattle.walk_summary.proofs.summary.Summary.join.Goals as goal
 
 pub invariant_of-result : goal.invariant_of-result
