@@ -18,7 +18,7 @@ const MOST_WALKS: usize = 10_000;
 /// What the calls answered: how many walks were settled after the root's, how many schedules were
 /// tried, how many the summary joined with itself has, and how many end views; the steps of the
 /// schedule's item (`copied`) and of the next bound's first round (`next`); a board's seats.
-#[derive(Clone, Copy, Debug)]
+#[derive(Clone, Copy)]
 pub struct BookFacts {
     pub settled: u64,
     pub tried: u64,

@@ -18,7 +18,7 @@ const MOST_TURNS: u64 = 2_000_000;
 const EXTRA_TURNS: u64 = 500;
 
 /// What a gate does with the workers that ask it.
-#[derive(Clone, Copy, Debug)]
+#[derive(Clone, Copy)]
 pub enum Policy {
     /// The gate stops nobody and holds nobody, though it says that it may stop.
     Open,
@@ -37,7 +37,7 @@ pub enum Policy {
 }
 
 /// What is logged: an answer to a worker, the end of a walk or round, or a wait that is too long.
-#[derive(Clone, Copy, Debug, PartialEq, Eq)]
+#[derive(Clone, Copy, PartialEq, Eq)]
 enum Event {
     Go,
     Stop,
@@ -47,7 +47,7 @@ enum Event {
 }
 
 /// An event with its worker and its number, packed into one word.
-#[derive(Clone, Copy, Debug)]
+#[derive(Clone, Copy)]
 pub struct LogEntry(u64);
 
 impl fmt::Display for LogEntry {

@@ -9,7 +9,7 @@ use runner::{BOUND, Options, Search, WORKERS};
 use std::alloc::Global;
 
 /// What a command line asks for: a file to search, how, and what the gate does.
-#[derive(Debug, Drop)]
+#[derive(Drop)]
 pub struct Request {
     pub file: String,
     pub search: Exploration,

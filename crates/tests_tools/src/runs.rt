@@ -10,7 +10,7 @@ use std::alloc::Global;
 
 /// What the calls of a run answered: how many variables there are, the values of the end view, the
 /// steps, and how long the texts are.
-#[derive(Clone, Copy, Debug)]
+#[derive(Clone, Copy)]
 pub struct RunFacts {
     pub variables: usize,
     pub viewed: usize,

@@ -18,7 +18,7 @@ use walk_items::item::Item;
 use walk_items::mode::Mode;
 
 /// What a walk counted.
-#[derive(Clone, Copy, Debug)]
+#[derive(Clone, Copy)]
 struct Counts {
     tried: u64,
     failed: u64,
