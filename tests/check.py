@@ -517,6 +517,9 @@ CLEAN = [
     "mutex m; var x;\nthread A { add r x 1; lock m; if r { store x 1; } unlock m; }",
     # starts above 0
     "sem s = 1;\nthread A { acquire s; }",
+    # two pairs, each under a test of its own
+    "mutex m; var x;\nthread A { add c x 1; if c == 1 { lock m; } add d x 1; if c == 1 { unlock m; }\n"
+    "if d == 2 { lock m; } store x 7; if d == 2 { unlock m; } }",
     # a `lock` and what needs it under one test, with another test between them; after each turn of a loop the test is another
     "mutex m; cond c; var x;\nthread A { repeat 3 { add r x 1; if r == 1 { lock m; } if r { store x 5; }\n"
     "if r == 1 { wait c m; # allow W14\nunlock m; } } }\nthread B { signal c; }",
@@ -585,6 +588,9 @@ SHORT = [
     ("var x;\nthread A { store x 1; assert totl == 0; }",
      ["1:5: warning W5 NeverLoaded: no statement reads this variable",
       "2:30: warning W1 NeverSet: no statement of A gives `totl` a value: it is 0"]),
+    # the first is given back on each path
+    ("mutex m; var x;\nthread A { lock m; unlock m; lock m; add r x 1; }",
+     ["2:30: warning W8 MayKeep: A may end with this mutex locked: on some way to its end nothing unlocks it"]),
     ("thread A { lock m; }", ["1:17: error C2 Unknown: no mutex has this name"]),
     ("thread A { set r 1 }", ["1:20: error S3 Expected: an operator or `;` was expected"]),
     # of the whole text

@@ -10,16 +10,17 @@ use std::alloc::{AllocError, Global};
 // Ways to be at a place of a code: with the mutex or without it, and with the test true or not.
 const WAYS: usize = 4;
 
-// What is warned of a mutex: a thread that comes to a place in its code, or to the end, with the
-// mutex or without it. It comes there by a path on which the tests of one expression agree: a test
-// goes as the one before it did, unless a local of the expression was set between them.
+// What is warned of a mutex, at the instruction of number `at`: that the thread takes it there and
+// keeps it up to its end, or comes there without it. It does so on a path on which the tests of one
+// expression agree, if one is given: a test goes as the one before it did, unless a local of the
+// expression was set between them.
 #[derive(Clone, Copy)]
 struct Fault<'a> {
     code: &'a [Instruction],
+    at: usize,
     mutex: usize,
-    place: usize,
-    owns: bool,
-    test: &'a Expression,
+    keeps: bool,
+    test: Option<&'a Expression>,
 }
 
 // The expression that an instruction tests; `None` where it is no test.
@@ -35,19 +36,21 @@ impl Fault<'_> {
     // `ahead` says so of the ways to be at later places.
     fn is_ahead(self, ahead: &[bool], way: usize) -> bool {
         let (place, owns, holds) = (way / WAYS, way % WAYS >= 2, way % 2 == 1);
-        if place == self.place {
-            return owns == self.owns;
-        }
         let Some(instruction) = self.code.get(place) else {
-            return false;
+            return self.keeps && owns;
         };
+        if place == self.at && !self.keeps {
+            return !owns;
+        }
         let owns = match instruction {
             Instruction::Lock(taken) if *taken == self.mutex && owns => return false,
-            Instruction::Lock(taken) if *taken == self.mutex => true,
+            // what another `lock` takes isn't what this one keeps
+            Instruction::Lock(taken) if *taken == self.mutex => !self.keeps || place == self.at,
             Instruction::Unlock(given) if *given == self.mutex => false,
             _ => owns,
         };
-        let is_set = local_set(instruction).is_some_and(|local| expression_reads(local, self.test));
+        let is_read = |local: usize| self.test.is_some_and(|test| expression_reads(local, test));
+        let is_set = local_set(instruction).is_some_and(is_read);
         let leads = |place: usize| {
             let first = place
                 .saturating_mul(WAYS)
@@ -61,7 +64,9 @@ impl Fault<'_> {
         let next = place.saturating_add(1);
         let jump = next.saturating_add(skip_of(instruction));
         match tested(instruction) {
-            Some(test) if test == self.test => leads(if holds { next } else { jump }),
+            Some(test) if self.test.is_some_and(|agreeing| agreeing == test) => {
+                leads(if holds { next } else { jump })
+            }
             Some(_) => leads(next) || leads(jump),
             None => leads(jump),
         }
@@ -82,34 +87,42 @@ impl Fault<'_> {
 }
 
 impl Compiled<'_> {
-    /// Whether a warning is `MayKeep` or `MayLack`, and some test in the thread's code rules it out:
-    /// on no path on which the tests of the same expression agree is it so. Fails where memory runs
-    /// out.
+    /// Whether a warning is `MayKeep` or `MayLack`, and is ruled out by some test in the thread's
+    /// code: it isn't so on any path on which the tests of the same expression agree; or is of a
+    /// `lock` after which the mutex is given back on each path. Fails where memory runs out.
     pub fn is_ruled_out(&self, alloc: Global, warning: Warning) -> Result<bool, AllocError> {
-        let (thread, place, owns) = match warning.kind {
-            WarningKind::MayKeep(thread) => (thread, self.code(thread).len(), true),
-            WarningKind::MayLack(thread) => (thread, warning.number, false),
+        let (thread, keeps) = match warning.kind {
+            WarningKind::MayKeep(thread) => (thread, true),
+            WarningKind::MayLack(thread) => (thread, false),
             _ => return Ok(false),
         };
-        let code = self.code(thread);
-        let mutex = match code.get(warning.number) {
+        let (code, at) = (self.code(thread), warning.number);
+        let mutex = match code.get(at) {
             Some(Instruction::Lock(mutex) | Instruction::Unlock(mutex)) => *mutex,
             Some(Instruction::Wait { mutex, .. }) => *mutex,
             _ => return Ok(false),
         };
+        let mut fault = Fault {
+            code,
+            at,
+            mutex,
+            keeps,
+            test: None,
+        };
+        if !fault.is_possible(alloc)? {
+            return Ok(true);
+        }
         for (i, instruction) in code.iter().enumerate() {
             let Some(test) = tested(instruction) else {
                 continue;
             };
             let mut earlier = code.iter().take(i).filter_map(tested);
-            let fault = Fault {
-                code,
-                mutex,
-                place,
-                owns,
-                test,
-            };
-            if !earlier.any(|other| other == test) && !fault.is_possible(alloc)? {
+            let mut later = code.iter().skip(i.saturating_add(1)).filter_map(tested);
+            // a test that is there once rules nothing out
+            let is_first_of_several = !earlier.any(|other| other == test)
+                && later.any(|other| other == test);
+            fault.test = Some(test);
+            if is_first_of_several && !fault.is_possible(alloc)? {
                 return Ok(true);
             }
         }
