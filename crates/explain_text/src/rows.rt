@@ -428,9 +428,12 @@ impl TextWriter<'_> {
         let is_long = blocked.len() > width.saturating_add(1);
         row.push_str(if is_long { "BLOCKED" } else { blocked.as_str() })?;
         pad_to(under, start)?;
-        let mut further = (0..self.columns.own).skip(thread as usize).skip(1);
-        let next = further.find(|t| self.waits.get(*t as u8).is_some());
-        let end = next.map_or(self.columns.width, |t| self.columns.start(t));
+        let (all, own) = (self.waits.all(), self.columns.own);
+        let next = all.iter().find(|next| next.thread > thread && (next.thread as usize) < own);
+        let end = next.map_or(
+            self.columns.width,
+            |t| self.columns.start(t.thread as usize),
+        );
         let room = end.saturating_sub(start.saturating_add(GAP));
         put_truncated(under, self.blocked_action(wait)?.as_str(), room)
     }
