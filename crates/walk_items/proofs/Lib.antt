@@ -10,3 +10,4 @@ pub mod Children
 pub mod ItemsWalked
 pub mod Turns
 pub mod LastItems
+pub mod Once

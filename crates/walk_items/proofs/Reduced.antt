@@ -1,8 +1,8 @@
 -- What sleep sets leave of the schedules that begin with a prefix, and with one more step.
-use Rattle.std.proofs.Common.{◌≡◌, ℕ, ◌<◌, Bool, true, false, cond, not, ◌&&◌, ◌||◌, nat_lt, List}
+use Rattle.std.proofs.Common.{◌≡◌, ℕ, Bool, true, false, cond, not, ◌&&◌, ◌||◌, nat_lt, List}
 use Rattle.std.proofs.Common.{[], ◌∷◌, ◌++◌, length, map, drop, refl, ap, ◌∙◌, sym, subst, arith}
 use Rattle.std.proofs.Common.{append_assoc, inl, inr}
-use Rattle.std.specs.List.{filter, flat_map}
+use Rattle.std.{specs.List.{filter, flat_map}, proofs.lemmas.List.map-append}
 use Rattle.guest_code.specs.Program.{Program}
 use Rattle.semantics.specs.Ends.{enabled, is_terminal}
 use Rattle.semantics.specs.{Machine.{Snapshot, start, step, is_enabled}, Mask.has, Reachable.IsOf}
@@ -73,6 +73,17 @@ child_is_of i t of e =
     subst (IsOf i.program) (sym (state_after_child i t))
     (step_is_of i.program (state_of i) t of e)
 
+-- the threads of its mask are those that sleep
+pub asleep_after : (i : ItemView) (t : ℕ) → IsOf i.program (state_of i) →
+    is_enabled i.program (state_of i) t ≡ true → (u : ℕ) →
+    is_enabled i.program (state_of (child_of Reduced i t)) u ≡ true →
+    has (child_of Reduced i t).mask u ≡ next_sleep_set i.program (state_of i) (has i.mask) t u
+asleep_after i t of e u k =
+    has-mask_of (next_sleep_set i.program (state_of i) (has i.mask) t) u
+    (let few = (child_is_of i t of e).few in
+    let l = enabled_below i.program (state_of (child_of Reduced i t)) u k in
+    omega (arith, few, l))
+
 kept_child : (i : ItemView) (t : ℕ) → IsOf i.program (state_of i) →
     is_enabled i.program (state_of i) t ≡ true →
     kept_schedules (child_of Reduced i t)
@@ -80,20 +91,7 @@ kept_child : (i : ItemView) (t : ℕ) → IsOf i.program (state_of i) →
     (next_sleep_set i.program (state_of i) (has i.mask) t)
 kept_child i t of e =
     ap (map (λ w. (i.prefix ++ t ∷ []) ++ w))
-    (reduced_alike i.program next (has (child_of Reduced i t).mask) sleep
-    (λ u k. has-mask_of sleep u (small u k)))
-  where
-    next : Snapshot
-    next = state_after i.program (start i.program) (i.prefix ++ t ∷ [])
-
-    sleep : ℕ → Bool
-    sleep = next_sleep_set i.program (state_of i) (has i.mask) t
-
-    small : (u : ℕ) → is_enabled i.program next u ≡ true → u < 16
-    small u k =
-        let few = (child_is_of i t of e).few in
-        let l = enabled_below i.program next u k in
-        omega (arith, few, l)
+    (reduced_alike i.program (state_of (child_of Reduced i t)) _ _ (asleep_after i t of e))
 
 -- lists
 
@@ -179,6 +177,26 @@ kept_after_step p x Z t h e z =
         (sym (ap (drop (length x)) (append_assoc x (t ∷ []) r.0) ∙ drop_prefix x (t ∷ r.0)))
         ∙ ap (is_kept_after p x Z) r.2))))
 
+-- what goes on from a prefix, by its next steps
+pub after_prefix : (x : List ℕ) (rest : ℕ → List (List ℕ)) (ts : List ℕ) →
+    map (λ w. x ++ w) (flat_map (λ t. before t (rest t)) ts)
+    ≡ flat_map (λ t. map (λ w. (x ++ t ∷ []) ++ w) (rest t)) ts
+after_prefix x rest [] = refl
+after_prefix x rest (t ∷ ts) =
+    map-append (λ w. x ++ w) (before t (rest t)) (flat_map (λ u. before u (rest u)) ts)
+    ∙ (λ i. moved (rest t) i ++ after_prefix x rest ts i)
+  where
+    moved : (L : List (List ℕ)) →
+        map (λ w. x ++ w) (before t L) ≡ map (λ w. (x ++ t ∷ []) ++ w) L
+    moved [] = refl
+    moved (w ∷ L) = λ i. sym (append_assoc x (t ∷ []) w) i ∷ moved L i
+
+pub flat_map_alike : (f g : ℕ → List (List ℕ)) (ts : List ℕ) →
+    ((t : ℕ) → In ts t → f t ≡ g t) → flat_map f ts ≡ flat_map g ts
+flat_map_alike f g [] h = refl
+flat_map_alike f g (t ∷ ts) h =
+    λ j. h t (inl refl) j ++ flat_map_alike f g ts (λ u m. h u (inr m)) j
+
 -- what sleep sets leave after a prefix that goes on, child after child
 kept_after_more : (p : Program) (x : List ℕ) (Z : ℕ → Bool) →
     is_terminal p (state_after p (start p) x) ≡ false →
@@ -187,37 +205,12 @@ kept_after_more : (p : Program) (x : List ℕ) (Z : ℕ → Bool) →
     (next_sleep_set p (state_after p (start p) x) Z t))
     (filter (λ t. not (Z t)) (enabled p (state_after p (start p) x)))
 kept_after_more p x Z more =
-    ap put (reduced_schedules-more p s Z more)
-    ∙ each (filter (λ t. not (Z t)) (enabled p s))
-  where
-    s : Snapshot
-    s = state_after p (start p) x
-
-    put : List (List ℕ) → List (List ℕ)
-    put L = map (λ w. x ++ w) L
-
-    after : ℕ → List (List ℕ)
-    after t = reduced_schedules p (step p s t) (next_sleep_set p s Z t)
-
-    put_append : (K L : List (List ℕ)) → put (K ++ L) ≡ put K ++ put L
-    put_append [] L = refl
-    put_append (w ∷ K) L = ap (λ M. (x ++ w) ∷ M) (put_append K L)
-
-    moved : (t : ℕ) (L : List (List ℕ)) → put (before t L) ≡ map (λ w. (x ++ t ∷ []) ++ w) L
-    moved t [] = refl
-    moved t (w ∷ L) = λ i. sym (append_assoc x (t ∷ []) w) i ∷ moved t L i
-
-    one : (t : ℕ) →
-        put (before t (after t)) ≡ kept_after p (x ++ t ∷ []) (next_sleep_set p s Z t)
-    one t = moved t (after t)
-        ∙ ap (λ q. map (λ w. (x ++ t ∷ []) ++ w) (reduced_schedules p q (next_sleep_set p s Z t)))
-        (sym (state_after-push p (start p) x t))
-
-    each : (ts : List ℕ) → put (flat_map (λ t. before t (after t)) ts)
-        ≡ flat_map (λ t. kept_after p (x ++ t ∷ []) (next_sleep_set p s Z t)) ts
-    each [] = refl
-    each (t ∷ ts) = put_append (before t (after t)) (flat_map (λ u. before u (after u)) ts)
-        ∙ (λ i. one t i ++ each ts i)
+    let s : Snapshot = state_after p (start p) x in
+    let ts : List ℕ = filter (λ t. not (Z t)) (enabled p s) in
+    ap (map (λ w. x ++ w)) (reduced_schedules-more p s Z more)
+    ∙ (after_prefix x (λ t. reduced_schedules p (step p s t) (next_sleep_set p s Z t)) ts
+    ∙ (λ i. flat_map (λ t. map (λ w. (x ++ t ∷ []) ++ w)
+    (reduced_schedules p (sym (state_after-push p (start p) x t) i) (next_sleep_set p s Z t))) ts))
 
 -- the child of a thread that doesn't sleep has its item's schedules that begin with its prefix
 pub child_keeps : (i : ItemView) (t : ℕ) → IsItem i → IsOf i.program (state_of i) →
@@ -235,7 +228,7 @@ pub children_keep : (i : ItemView) → IsOf i.program (state_of i) →
     (filter (λ t. not (has i.mask t)) (enabled i.program (state_of i)))
 children_keep i of more =
     kept_after_more p i.prefix (has i.mask) more
-    ∙ flat_map_alike (filter awake (enabled p s))
+    ∙ flat_map_alike _ (λ t. kept_schedules (child_of Reduced i t)) (filter awake (enabled p s))
     (λ t m. sym (kept_child i t of
     (from_enabled p s t (from_filter awake (enabled p s) t m).0)))
   where
@@ -247,13 +240,3 @@ children_keep i of more =
 
     awake : ℕ → Bool
     awake t = not (has i.mask t)
-
-    expected : ℕ → List (List ℕ)
-    expected t = kept_after p (i.prefix ++ t ∷ []) (next_sleep_set p s (has i.mask) t)
-
-    flat_map_alike : (ts : List ℕ) →
-        ((t : ℕ) → In ts t → expected t ≡ kept_schedules (child_of Reduced i t)) →
-        flat_map expected ts ≡ flat_map (λ t. kept_schedules (child_of Reduced i t)) ts
-    flat_map_alike [] h = refl
-    flat_map_alike (t ∷ ts) h =
-        λ j. h t (inl refl) j ++ flat_map_alike ts (λ u m. h u (inr m)) j

@@ -6,7 +6,7 @@ use Rattle.std.proofs.Common.{IsPermutation}
 use Rattle.std.specs.List.{filter, flat_map, list_any, All, AllPairs, Contains}
 use Rattle.std.proofs.lemmas.Bool.{not-true, not_from_false, or_parts, Decides.nat_tests}
 use Rattle.std.proofs.lemmas.List.{append-nil, get_or_append_left, get_or-append-add, get_or-map}
-use Rattle.std.proofs.lemmas.List.{length-map}
+use Rattle.std.proofs.lemmas.List.{length-map, map-id}
 use Rattle.std.proofs.lemmas.List.Elements.{All-nil, All-cons, All-head, All-tail, All-weaker}
 use Rattle.std.proofs.lemmas.List.Elements.{All-contains, All-contains_itself, All-filter}
 use Rattle.std.proofs.lemmas.List.Elements.{filter-append, filter_passes, Contains-append_cases}
@@ -57,12 +57,8 @@ root_beyond p bound =
 pub root_pruned : (p : Program) →
     schedules_of Reduced (root_of p) ≡ reduced_schedules p (start p) none_asleep
 root_pruned p =
-    itself (reduced_schedules p (start p) (has no_threads))
+    map-id (reduced_schedules p (start p) (has no_threads))
     ∙ (λ i. reduced_schedules p (start p) (λ t. empty_has t i))
-  where
-    itself : (L : List (List ℕ)) → map (λ w. w) L ≡ L
-    itself [] = refl
-    itself (w ∷ L) = ap (λ K. w ∷ K) (itself L)
 
 -- each item's schedules
 

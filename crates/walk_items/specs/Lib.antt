@@ -3,3 +3,4 @@ pub mod Items
 pub mod Walks
 pub mod FullSums
 pub mod Children
+pub mod Once

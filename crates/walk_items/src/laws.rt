@@ -1,14 +1,15 @@
 //! Laws of the definitions. A law is what its function ensures; the functions do nothing.
 
-ghost use Rattle.std.specs.Prelude.{◌≡◌, ◌↔◌, ◌+◌, ◌≤◌, ◌<◌, ℕ, nat_le, nat_lt, true, false, List, [], ◌++◌, length, filter, slice_index_or, Contains, All};
+ghost use Rattle.std.specs.Prelude.{◌≡◌, ◌↔◌, ◌+◌, ◌≤◌, ◌<◌, ℕ, nat_le, nat_lt, true, false, List, [], ◌∷◌, ◌++◌, length, filter, flat_map, slice_index_or, Contains, All};
 ghost use Rattle.std.specs.List.{list_any};
 ghost use Rattle.guest_code.specs.Program.{Program};
-ghost use Rattle.semantics.specs.{Machine.start, Mask.has};
+ghost use Rattle.semantics.specs.{Ends.is_terminal, Machine.start, Mask.has, Reachable.IsOf};
 ghost use Rattle.semantics_schedules.specs.{Order.precedes, Rising.IsRising};
 ghost use Rattle.semantics_schedules.specs.Schedules.{complete_schedules, preemptions, begins_with};
 ghost use Rattle.semantics_schedules.specs.Sleep.{is_kept, reduced_schedules, none_asleep};
-ghost use Rattle.walk_items.specs.FullSums.{full_sum, full_sums};
-ghost use Rattle.walk_items.specs.Items.{ItemView, IsItem, IsScheduleOf, state_of, root_of, schedules_of, goes_beyond, item_sum, item_sums, schedule_count, is_under};
+ghost use Rattle.walk_items.specs.{Children.children_of, FullSums.{full_sum, full_sums}};
+ghost use Rattle.walk_items.specs.Items.{ItemView, IsItem, IsScheduleOf, state_of, root_of, schedules_of, goes_beyond, item_sum, item_sums, whole, schedule_count, is_under};
+ghost use Rattle.walk_items.specs.Once.{everything_once, schedules_once, whole_once, SaysTheSame, steps_once};
 ghost use Rattle.walk_items.specs.Walks.{WalkView, IsWalked, IsBelow, IsDeferred, HasAllPast, tried_by};
 ghost use Rattle.walk_items.specs.declared.mode.Mode.{Mode, TheVariants.{Bounded, Reduced}};
 ghost use Rattle.walk_summary.specs.Summaries.{cut, greatest_count, sum_of, join, with_beyond};
@@ -140,6 +141,28 @@ pub fn past_the_bound_is_left_or_deferred()
 pub fn pruned_walks_put_off_nothing()
     ensures deferred { (w : WalkView) → IsWalked w → w.mode ≡ Reduced → w.deferred ≡ [] }
     ensures beyond { (w : WalkView) → IsWalked w → w.mode ≡ Reduced → w.part.beyond ≡ false }
+{}
+
+// Equal threads once.
+
+/// The schedules of a program that are left where of equal threads only the lowest is tried are
+/// some of those of the same mode, and their sum says what the sum of these says, but for their
+/// number: the same first bad schedule, the same end views, and whether one is beyond the bound.
+pub fn equal_threads_once_say_the_same()
+    ensures own { (p : Program) (mode : Mode) (w : List ℕ) →
+        Contains (schedules_once mode (root_of p)) w → Contains (schedules_of mode (root_of p)) w }
+    ensures same { (p : Program) (mode : Mode) → SaysTheSame (whole_once p mode) (whole p mode) }
+{}
+
+/// What is left of an item's schedules, within the bound or not, where equal threads are tried once
+/// is its prefix alone where no thread is enabled after it; else what is left of its children's, by
+/// the steps of threads that are neither hidden nor, without a bound, asleep.
+pub fn equal_threads_once_unfold()
+    ensures terminal { (mode : Mode) (i : ItemView) →
+        is_terminal i.program (state_of i) ≡ true → everything_once mode i ≡ i.prefix ∷ [] }
+    ensures more { (mode : Mode) (i : ItemView) → IsOf i.program (state_of i) →
+        is_terminal i.program (state_of i) ≡ false → everything_once mode i ≡
+        flat_map (everything_once mode) (children_of mode i (steps_once mode i)) }
 {}
 
 // Limits.
