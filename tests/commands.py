@@ -28,6 +28,8 @@ LATE = EIGHTS.replace("var x;", "var x; var y;").replace("}\nthread B {",
 
 # A waits for B in a loop that may run out of turns.
 WAITS = ("var x;\nthread A { repeat 2 { load r x; if r == 1 { leave; } } }\nthread B { store x 1; }\n")
+# The same, where A fails if it looked in vain.
+IN_VAIN = WAITS.replace("} } }", "} } assert r; }")
 # Sleep sets leave one schedule to its end, and cut others short. A loop of LEFT may be left.
 THREE = ("cond c; var x; var y; var z; var w;\nthread A { store x 1; }\nthread B { store y 1; }\n"
          "thread C { store z 1; }\n")
@@ -74,6 +76,7 @@ FILES = {
     "at_once.guest": "# expect: bad 0\nthread A { assert 0; }\n",
     "crossed.guest": CROSSED,
     "waits.guest": WAITS,
+    "in_vain.guest": IN_VAIN,
     "three.guest": THREE,
     "left.guest": LEFT,
     "crowded.guest": CROWDED,
@@ -221,6 +224,9 @@ VERIFIED = [
      "See why: ctxbound explain crowd.guest 1,0x2,2,3,4,5,6,7,8\n", 1),
     (["waits.guest"], "all schedules: none is bad (3 tried)\nRIGHT: no schedule of waits.guest fails or gets stuck.\n"
      "But W12 RanOut at 2:12: this `repeat` runs out of turns with no `leave` in some schedule\n", 0),
+    (["in_vain.guest"], "all schedules: one with no preemption is bad (3 tried)\n"
+     "BAD: a schedule of in_vain.guest with no preemption fails.\nThere the `repeat` in line 2 ran out of its 2 turns.\n"
+     "See why: ctxbound explain in_vain.guest 0x2,1\n", 1),
     # loops are looked for in as many schedules as the limit says, those that are cut short among them
     (["three.guest", "--limit", "1"], "all schedules: none is bad (1 tried)\n"
      "RIGHT: no schedule of three.guest fails or gets stuck.\n", 0),
@@ -282,6 +288,8 @@ PROGRESS = [
     (["verify", "clean.guest"], "unbounded: 1 tried, 0 bad, 0 open\n"),
     (["verify", "waits.guest", "--limit", "9"],
      "unbounded: 3 tried, 0 bad, 0 open\ncaveats: looked for in at most 9 schedules\n"),
+    (["verify", "waits.guest"],
+     "unbounded: 3 tried, 0 bad, 0 open\ncaveats: looked for in at most 1000000 schedules\n"),
 ]
 PROGRESS_LINE = re.compile(r"(?:bound (\d+)|unbounded): ([\d,]+) tried, ([\d,]+) bad, ([\d,]+) open"
                            r"(?:, ([\d,]+) deferred)?")

@@ -55,6 +55,7 @@ CASES = [
     (HERE, "ended_owner.guest", ["0x2"], 1, "ended_owner.txt"),
     (HERE, "broadcast.guest", ["0x2,1x2,2x2,3x2,1x3,0x3,2x2"], 1, "broadcast.txt"),
     (HERE, "broadcast.guest", ["0x2,1x2,2x2,3x2"], 0, "woken.txt"),
+    (HERE, "late_rows.guest", ["1,2,1"], 1, "late_rows.txt"),
     (HERE, "woken_twice.guest", ["0x2,1x2,2,0x2,1x2"], 1, "woken_twice.txt"),
     (HERE, "lost_values.guest", ["0x3,1x3,0x4,2x3"], 1, "lost_values.txt"),
     (HERE, "dirty_cow.guest", [], 1, "dirty_cow.txt"),

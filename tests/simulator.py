@@ -1176,6 +1176,17 @@ SHAPES = [
     ("sem a = 0; var x; thread A { load r x; if r { release a; } else { store x 2; } } thread B { acquire a; }", "0x2"),
     # A test that led to another one alone, by which a write was passed by.
     ("var x; var y; thread A { load a y; if a == 0 { if a { store x 1; } } } thread B { load r x; assert r == 1; }", "0,1"),
+    # A `leave` under two tests, by which a signal is passed by.
+    ("var x = 1; var y = 1; mutex m; cond c; thread A { lock m; wait c m; } thread B { load a x; load b y; repeat 1 { "
+     "if a { if b { leave; } } signal c; } }", "0x2,1x2"),
+    # A thread that can't carry a statement out in the second turn.
+    ("mutex m; thread A { repeat 2 { lock m; } }", "0"),
+    # A test by which two writes were passed by, of which the second one is of what is read.
+    ("var x; var y; var z; thread A { load a y; if a { store z 1; store x 1; } } thread B { load r x; assert r == 1; }",
+     "0,1"),
+    # A loop that was left in one turn of the loop round it, and ran out in the next.
+    ("var x = 1; thread A { repeat 2 { repeat 2 { load r x; if r { leave; } } } assert r; } thread B { store x 0; }",
+     "0,1,0x2"),
     # A mutex whose owner ended, having passed its unlock by; and one whose owner stopped before it.
     ("mutex m; var x; thread A { lock m; load r x; if r { unlock m; } } thread B { lock m; unlock m; }", "0x2"),
     ("mutex m; thread A { lock m; assert 0; unlock m; } thread B { lock m; unlock m; }", "0"),
