@@ -41,6 +41,8 @@ GUESTS = {
     "marked.guest": "# 1 \"two.c\"\nvar x;\n# 1 \"a.inc\" 1\nthread A { load r x; \nassert r == 0; }\n#line 3 \"two.c\"\n"
                     "thread B { store x 1; }\n",
     "itself.guest": "mutex m;\nthread A { lock m; lock m; }\nthread B { lock m; unlock m; }\n",
+    # A name that is wider than the window.
+    "long_names.guest": "mutex m;\nthread %s { lock m; lock m; }\nthread B { lock m; unlock m; }\n" % ("n" * 70),
 }
 
 # Moves the slider to each step, and puts down what the page shows there, and beside it.
@@ -285,7 +287,8 @@ def faults(tester, browser, path, search):
 
 class Pages(Tester):
     seconds = 120
-    texts = {**GUESTS, MARKUP: (ROOT / "tests/explain/names.guest").read_text()}
+    texts = {**GUESTS, **{name: (ROOT / "tests/explain" / file).read_text() for name, file in (
+        (MARKUP, "names.guest"), ("late_rows.guest", "late_rows.guest"))}}
 
     def test(self):
         browser = next(filter(None, map(shutil.which, BROWSERS)), None)

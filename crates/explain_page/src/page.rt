@@ -62,7 +62,7 @@ svg text { font: 11px ui-monospace, monospace; fill: var(--ink); }
 #legend .soft { color: var(--soft); } #legend .grey { color: var(--held); }
 #legend span { margin-right: 14px; white-space: nowrap; }
 #control { display: flex; gap: 8px; align-items: center; flex-wrap: wrap; } #slider { flex: 1; min-width: 120px; }
-#place { flex-basis: 100%; }
+#place { flex-basis: 100%; min-width: 0; overflow-wrap: anywhere; }
 #state { display: flex; flex-wrap: wrap; gap: 12px; overflow-x: auto; } #state > div { flex: 1 1 150px; }
 table { border-collapse: collapse; font: 12px ui-monospace, monospace; }
 td { padding: 1px 10px 1px 0; vertical-align: top; }
