@@ -32,18 +32,18 @@ fn tested(instruction: &Instruction) -> Option<&Expression> {
 }
 
 impl Fault<'_> {
-    // Whether such a path leads on to the fault from the way of number `way` to be at a place;
-    // `ahead` says so of the ways to be at later places.
-    fn is_ahead(self, ahead: &[bool], way: usize) -> bool {
+    // The way after the one of number `way` on such a path, which jumps where it may; itself at the
+    // fault, and `None` where no path leads there. `after` says so of the ways at later places.
+    fn way_after(self, after: &[Option<usize>], way: usize) -> Option<usize> {
         let (place, owns, holds) = (way / WAYS, way % WAYS >= 2, way % 2 == 1);
         let Some(instruction) = self.code.get(place) else {
-            return self.keeps && owns;
+            return (self.keeps && owns).then_some(way);
         };
         if place == self.at && !self.keeps {
-            return !owns;
+            return (!owns).then_some(way);
         }
         let owns = match instruction {
-            Instruction::Lock(taken) if *taken == self.mutex && owns => return false,
+            Instruction::Lock(taken) if *taken == self.mutex && owns => return None,
             // what another `lock` takes isn't what this one keeps
             Instruction::Lock(taken) if *taken == self.mutex => !self.keeps || place == self.at,
             Instruction::Unlock(given) if *given == self.mutex => false,
@@ -52,37 +52,54 @@ impl Fault<'_> {
         let is_read = |local: usize| self.test.is_some_and(|test| expression_reads(local, test));
         let is_set = local_set(instruction).is_some_and(is_read);
         let leads = |place: usize| {
-            let first = place
-                .saturating_mul(WAYS)
-                .saturating_add(if owns { 2 } else { 0 });
+            let first = place.saturating_mul(WAYS);
             let leads_as = |holds: bool| {
-                let way = first.saturating_add(usize::from(holds));
-                ahead.get(way).is_some_and(|is_ahead| *is_ahead)
+                let way = first.saturating_add(usize::from(holds) + if owns { 2 } else { 0 });
+                after.get(way)?.map(|_| way)
             };
-            leads_as(holds) || is_set && leads_as(!holds)
+            leads_as(holds).or(leads_as(!holds).filter(|_| is_set))
         };
         let next = place.saturating_add(1);
         let jump = next.saturating_add(skip_of(instruction));
         match tested(instruction) {
-            Some(test) if self.test.is_some_and(|agreeing| agreeing == test) => {
-                leads(if holds { next } else { jump })
-            }
-            Some(_) => leads(next) || leads(jump),
+            Some(test) if self.test == Some(test) => leads(if holds { next } else { jump }),
+            Some(_) => leads(jump).or(leads(next)),
             None => leads(jump),
         }
     }
 
-    // Whether such a path leads from the start of the code to the fault.
-    fn is_possible(self, alloc: Global) -> Result<bool, AllocError> {
-        let ways = self.code.len().saturating_add(1).saturating_mul(WAYS);
-        let mut ahead: Vec<bool> = (0..ways).map(|_| false).collect(alloc)?;
-        for way in (0..ways).rev() {
-            let is_ahead = self.is_ahead(&ahead, way);
-            if let Some(known) = ahead.get_mut(way) {
-                *known = is_ahead;
+    // The way after each way to be at a place of the code; the first two are those at the start.
+    fn ways(self, alloc: Global) -> Result<Vec<Option<usize>>, AllocError> {
+        let count = self.code.len().saturating_add(1).saturating_mul(WAYS);
+        let mut ways = vec![in alloc; None; count]?;
+        for way in (0..count).rev() {
+            let after = self.way_after(&ways, way);
+            if let Some(known) = ways.get_mut(way) {
+                *known = after;
             }
         }
-        Ok(ahead.iter().take(2).any(|is_ahead| *is_ahead))
+        Ok(ways)
+    }
+
+    // Whether some test rules the fault out. On the path that jumps wherever it may all tests agree
+    // that jump, so only the others are asked.
+    fn is_ruled_out(mut self, alloc: Global) -> Result<bool, AllocError> {
+        let ways = self.ways(alloc)?;
+        let (mut way, mut is_possible) = (0, ways.first().is_some_and(Option::is_some));
+        for (place, instruction) in self.code.iter().enumerate() {
+            if is_possible
+                && way / WAYS == place
+                && let Some(Some(after)) = ways.get(way)
+            {
+                way = *after;
+                self.test = tested(instruction).filter(|_| way / WAYS == place.saturating_add(1));
+                if self.test.is_some() {
+                    let agreeing = self.ways(alloc)?;
+                    is_possible = agreeing.iter().take(2).any(|way| way.is_some());
+                }
+            }
+        }
+        Ok(!is_possible)
     }
 }
 
@@ -102,30 +119,13 @@ impl Compiled<'_> {
             Some(Instruction::Wait { mutex, .. }) => *mutex,
             _ => return Ok(false),
         };
-        let mut fault = Fault {
+        let fault = Fault {
             code,
             at,
             mutex,
             keeps,
             test: None,
         };
-        if !fault.is_possible(alloc)? {
-            return Ok(true);
-        }
-        for (i, instruction) in code.iter().enumerate() {
-            let Some(test) = tested(instruction) else {
-                continue;
-            };
-            let mut earlier = code.iter().take(i).filter_map(tested);
-            let mut later = code.iter().skip(i.saturating_add(1)).filter_map(tested);
-            // a test that is there once rules nothing out
-            let is_first_of_several = !earlier.any(|other| other == test)
-                && later.any(|other| other == test);
-            fault.test = Some(test);
-            if is_first_of_several && !fault.is_possible(alloc)? {
-                return Ok(true);
-            }
-        }
-        Ok(false)
+        fault.is_ruled_out(alloc)
     }
 }
