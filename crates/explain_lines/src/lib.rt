@@ -10,12 +10,23 @@ pub use crate::columns::{Columns, Content, GAP, STEP, line_cell};
 pub use crate::file_line::{FileLine, InLine};
 pub use crate::marks::{Marks, Origin};
 use std::alloc::{AllocError, Global};
-use std::fmt;
+use std::fmt::{self, Display};
+
+/// Nothing where all was written, or the error that memory ran out.
+pub type Written = Result<(), AllocError>;
 
 /// A text that is written line by line. Words that don't fit into its width go on in further lines.
 /// Each character takes one column.
 #[derive(Drop)]
 pub struct Page {
+    lines: Lines,
+    // The words of the line that is being written.
+    words: String,
+}
+
+// The lines that were written, and how wide they are at most.
+#[derive(Drop)]
+struct Lines {
     text: String,
     width: usize,
 }
@@ -23,53 +34,70 @@ pub struct Page {
 impl Page {
     /// A page without a line, for lines of at most `width` columns.
     pub fn new(alloc: Global, width: usize) -> Page {
+        let text = String::new(alloc);
         Page {
-            text: String::new(alloc),
-            width,
+            lines: Lines { text, width },
+            words: String::new(alloc),
         }
     }
 
     /// The bytes of the text.
     pub fn into_bytes(self) -> Vec<u8> {
-        self.text.into_bytes()
+        self.lines.text.into_bytes()
     }
 
     /// Adds an empty line.
-    pub fn put_empty_line(&mut self) -> Result<(), AllocError> {
-        self.text.push('\n')
+    pub fn put_empty_line(&mut self) -> Written {
+        self.lines.text.push('\n')
     }
 
     /// Adds a line as it is, however wide.
-    pub fn put_unwrapped(&mut self, line: &str) -> Result<(), AllocError> {
-        self.text.push_str(line)?;
-        self.text.push('\n')
+    pub fn put_unwrapped(&mut self, line: &str) -> Written {
+        self.lines.text.push_str(line)?;
+        self.lines.text.push('\n')
+    }
+
+    /// Adds words to the line that is being written.
+    pub fn write<D: Display + Drop>(&mut self, words: D) -> Written {
+        self.words.write(words)
+    }
+
+    /// Adds words to the line that is being written: what `write!` calls.
+    pub fn write_fmt<D: Display + Drop>(&mut self, words: D) -> Written {
+        self.words.write(words)
+    }
+
+    /// Whether no words of a line are being written.
+    pub fn is_at_line_start(&self) -> bool {
+        self.words.is_empty()
+    }
+
+    /// Ends the line that is being written, which begins at column `start`. What doesn't fit goes to
+    /// further lines, from column `indent` on.
+    pub fn end_line(&mut self, start: usize, indent: usize) -> Written {
+        self.end_columns("", start, indent)
     }
 
     /// Adds words as a line. What doesn't fit goes to further lines, from column `indent` on.
-    pub fn put_line(&mut self, words: &str, indent: usize) -> Result<(), AllocError> {
-        self.put_columns("", words, 0, indent)
+    pub fn put_line<D: Display + Drop>(&mut self, words: D, indent: usize) -> Written {
+        self.write(words)?;
+        self.end_line(0, indent)
     }
 
-    /// Adds words as a line, from column `start` on. What doesn't fit goes to further lines, from
-    /// column `indent` on.
-    pub fn put_indented(
-        &mut self,
-        words: &str,
-        start: usize,
-        indent: usize,
-    ) -> Result<(), AllocError> {
-        self.put_columns("", words, start, indent)
+    /// Ends the line that is being written, as the second of two columns: it begins at the column
+    /// `start`, or one space after `first` where that is longer. What doesn't fit goes to further
+    /// lines, from column `indent` on.
+    pub fn end_columns(&mut self, first: &str, start: usize, indent: usize) -> Written {
+        let second = self.words.as_str();
+        self.lines.put_columns(first, second, start, indent)?;
+        self.words.clear();
+        Ok(())
     }
+}
 
-    /// Adds a line of two columns: the second begins at the column `start`, or one space after the
-    /// first where that is longer. What doesn't fit goes to further lines, from column `indent` on.
-    pub fn put_columns(
-        &mut self,
-        first: &str,
-        second: &str,
-        start: usize,
-        indent: usize,
-    ) -> Result<(), AllocError> {
+impl Lines {
+    // Adds a line of two columns, as [`Page::end_columns`] says.
+    fn put_columns(&mut self, first: &str, second: &str, start: usize, indent: usize) -> Written {
         self.text.push_str(first)?;
         let column = width_of(first);
         if !second.is_empty() {
@@ -81,13 +109,7 @@ impl Page {
 
     // Adds words to the last line, which has `from` columns, after `gap` spaces. What doesn't fit
     // goes to further lines, from column `indent` on.
-    fn put_words(
-        &mut self,
-        words: &str,
-        from: usize,
-        mut gap: usize,
-        indent: usize,
-    ) -> Result<(), AllocError> {
+    fn put_words(&mut self, words: &str, from: usize, mut gap: usize, indent: usize) -> Written {
         let mut column = from;
         let mut is_first = from <= indent;
         for word in words.split(' ') {
@@ -125,13 +147,13 @@ impl Page {
     }
 
     // Ends the last line, and begins a new one with `indent` spaces.
-    fn put_line_break(&mut self, indent: usize) -> Result<(), AllocError> {
+    fn put_line_break(&mut self, indent: usize) -> Written {
         self.text.push('\n')?;
         self.put_spaces(indent)
     }
 
     // Adds as many spaces as `spaces` says.
-    fn put_spaces(&mut self, spaces: usize) -> Result<(), AllocError> {
+    fn put_spaces(&mut self, spaces: usize) -> Written {
         put_repeated(&mut self.text, ' ', spaces)
     }
 }
@@ -142,7 +164,7 @@ pub fn width_of(text: &str) -> usize {
 }
 
 /// Adds a character to a text as often as `times` says.
-pub fn put_repeated(text: &mut String, letter: char, times: usize) -> Result<(), AllocError> {
+pub fn put_repeated(text: &mut String, letter: char, times: usize) -> Written {
     for _ in 0..times {
         text.push(letter)?;
     }
@@ -150,7 +172,7 @@ pub fn put_repeated(text: &mut String, letter: char, times: usize) -> Result<(),
 }
 
 /// Adds spaces to a row until it has `column` columns, but at least one where it isn't empty.
-pub fn pad_to(row: &mut String, column: usize) -> Result<(), AllocError> {
+pub fn pad_to(row: &mut String, column: usize) -> Written {
     let least = usize::from(!row.is_empty());
     let spaces = column.saturating_sub(width_of(row.as_str())).max(least);
     put_repeated(row, ' ', spaces)
@@ -158,7 +180,7 @@ pub fn pad_to(row: &mut String, column: usize) -> Result<(), AllocError> {
 
 /// Adds a word to a row. Of a word of more than `columns` columns it adds two dots, and before them
 /// as much of its beginning as fits into `columns` with them.
-pub fn put_truncated(row: &mut String, word: &str, columns: usize) -> Result<(), AllocError> {
+pub fn put_truncated(row: &mut String, word: &str, columns: usize) -> Written {
     if width_of(word) <= columns {
         return row.push_str(word);
     }

@@ -3,9 +3,8 @@
 use crate::origins::ValueLayout;
 use crate::text::TextWriter;
 use explain_cause::{Event, is_decided};
-use explain_lines::Page;
+use explain_lines::{Page, Written};
 use guest_code::program::Instruction;
-use std::alloc::AllocError;
 use std::collections::BTreeSet;
 
 const MOST_TESTS: usize = 4;
@@ -23,12 +22,7 @@ const VALUE_LAYOUT: ValueLayout = ValueLayout {
 impl TextWriter<'_> {
     /// Writes the tests in the cause before the event at place `end`, the last first, one for each
     /// place in the text. Locals that the events at the places `values` set were told before.
-    pub fn put_tests(
-        &self,
-        page: &mut Page,
-        end: usize,
-        values: &mut Vec<usize>,
-    ) -> Result<(), AllocError> {
+    pub fn put_tests(&self, page: &mut Page, end: usize, values: &mut Vec<usize>) -> Written {
         // the variables that later events of the cause read
         let (mut told, mut read) = (Vec::new(self.alloc), BTreeSet::new(self.alloc));
         for (at, test) in self.causes.events().iter().enumerate().rev() {
@@ -42,9 +36,9 @@ impl TextWriter<'_> {
                 let place = self.source.place(test.thread, test.instruction);
                 if !told.as_slice().contains(&place) {
                     told.push(place)?;
-                    let mut words = self.outcome_text(at, test, end, &read)?;
-                    words.push_str(self.test_text(test)?.as_str())?;
-                    page.put_indented(words.as_str(), TEST_INDENT, INDENT)?;
+                    self.put_outcome(page, (at, test), end, &read)?;
+                    self.put_test(page, test)?;
+                    page.end_line(TEST_INDENT, INDENT)?;
                     self.put_new_values(page, (at, expression), VALUE_LAYOUT, values)?;
                 }
             }
@@ -53,26 +47,26 @@ impl TextWriter<'_> {
         Ok(())
     }
 
-    /// As text, that something is so since a test was as it was.
-    pub fn test_text(&self, test: &Event) -> Result<String, AllocError> {
+    /// Writes that something is so since a test was as it was.
+    pub fn put_test(&self, page: &mut Page, test: &Event) -> Written {
         let (site, outcome) = (self.event_site(test), test.value() != 0);
         let (statement, line, comma) = (site.statement, site.line, site.line.comma());
-        format!(in self.alloc; " since `{statement}` in {line}{comma} was {outcome}")
+        write!(page, " since `{statement}` in {line}{comma} was {outcome}")
     }
 
-    // As text, what a test led to: the event at place `end`, else the next of the cause, no test,
-    // that it decides, else the write that it passed by of one of the variables `read` later, else
-    // the next test.
-    fn outcome_text(
+    // Writes what a test, with its place, led to: the event at place `end`, else the next of the
+    // cause, no test, that it decides, else the write that it passed by of one of the variables
+    // `read` later, else the next test.
+    fn put_outcome(
         &self,
-        at: usize,
-        test: &Event,
+        page: &mut Page,
+        (at, test): (usize, &Event),
         end: usize,
         read: &BTreeSet<usize>,
-    ) -> Result<String, AllocError> {
+    ) -> Written {
         let (name, last) = (self.thread_name(test.thread), self.event(end));
         if last.is_some_and(|last| self.decides(test, &last)) {
-            return "came here".to_string(self.alloc);
+            return page.write("came here");
         }
         let all = self.causes.events().iter().copied().enumerate();
         let led = all
@@ -85,10 +79,10 @@ impl TextWriter<'_> {
         if let Some((_, event)) = led
             && (passed.is_none() || !is_test(&event))
         {
-            return format!(in self.alloc; "{name} came to {},", self.event_site(&event));
+            return write!(page, "{name} came to {},", self.event_site(&event));
         }
         let passed = self.site(test.thread, passed.unwrap_or(first));
-        format!(in self.alloc; "{name} passed by {passed},")
+        write!(page, "{name} passed by {passed},")
     }
 
     // Whether the instruction of this number of a thread writes, or may write, one of these variables.

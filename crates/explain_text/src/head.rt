@@ -3,7 +3,7 @@
 use crate::origins::ValueLayout;
 use crate::text::TextWriter;
 use explain_cause::{Event, Failure};
-use explain_lines::{Count, InLine, Page};
+use explain_lines::{Count, InLine, Page, Written};
 use explain_run::{Holder, Object, Repeat};
 use guest_code::program::Instruction;
 use semantics::view::Kind;
@@ -23,7 +23,7 @@ const VALUE_LAYOUT: ValueLayout = ValueLayout {
 
 impl TextWriter<'_> {
     /// Writes how the schedule ended and after how many steps; of a failure, also where and why.
-    pub fn put_head(&self, page: &mut Page) -> Result<(), AllocError> {
+    pub fn put_head(&self, page: &mut Page) -> Written {
         if let Some(failure) = self.causes.failure()
             && let Some(event) = self.event(failure.event)
         {
@@ -35,10 +35,9 @@ impl TextWriter<'_> {
             None if self.explanation.refused().is_some() => "REFUSED",
             None => "NOT COMPLETE",
         };
-        let steps = self.explanation.steps().len();
-        let counts = self.counts_text(steps, self.explanation.preemptions())?;
-        let head = format!(in self.alloc; "{}: {ending} {counts}", self.main_file_name())?;
-        page.put_line(head.as_str(), INDENT)
+        let (steps, preemptions) = (self.explanation.steps(), self.explanation.preemptions());
+        write!(page, "{}: {ending} ", self.main_file_name())?;
+        self.put_counts(page, steps.len(), preemptions)
     }
 
     // The file that the guest's lines come from; where those are several, the one that was read.
@@ -49,42 +48,38 @@ impl TextWriter<'_> {
             .map_or(self.file_name(), |line| line.file)
     }
 
-    // As text, these counts, and whether the search showed that none with fewer preemptions is bad.
-    fn counts_text(&self, steps: usize, preemptions: usize) -> Result<String, AllocError> {
+    // Ends a line with these counts, and whether none with fewer preemptions is bad, if that is known.
+    fn put_counts(&self, page: &mut Page, steps: usize, preemptions: usize) -> Written {
         let least = match self.layout.is_fewest.filter(|_| preemptions > 0) {
             Some(true) => " None with fewer preemptions is bad.",
             Some(false) => " Its search doesn't say whether fewer preemptions are enough.",
             None => "",
         };
         let (steps, preemptions) = (Count(steps, "step"), Count(preemptions, "preemption"));
-        format!(in self.alloc; "after {steps} with {preemptions}.{least}")
+        let words = format_args!("after {steps} with {preemptions}.{least}");
+        page.put_line(words, INDENT)
     }
 
-    fn put_failure(
-        &self,
-        page: &mut Page,
-        failure: Failure,
-        event: Event,
-    ) -> Result<(), AllocError> {
+    fn put_failure(&self, page: &mut Page, failure: Failure, event: Event) -> Written {
         let site = self.event_site(&event);
         let steps = failure.step.map_or(0, |at| at.saturating_add(1));
-        let counts = self.counts_text(steps, failure.preemptions)?;
         let (line, turns) = (site.line.line.0.with_name(), site.line.turns);
         let (statement, name, comma) = (site.statement, site.name, site.line.comma());
-        let head = format!(in self.alloc;
-            "{line}: FAILED: {statement}   in {name}{turns}{comma} {counts}"
+        write!(
+            page,
+            "{line}: FAILED: {statement}   in {name}{turns}{comma} "
         )?;
-        page.put_line(head.as_str(), INDENT)?;
+        self.put_counts(page, steps, failure.preemptions)?;
         let mut told = Vec::new(self.alloc);
         self.put_reason(page, failure.event, event.statement, &mut told)?;
         self.put_repeats(page, failure.event)?;
         self.put_tests(page, failure.event, &mut told)
     }
 
-    fn put_repeats(&self, page: &mut Page, at: usize) -> Result<(), AllocError> {
+    fn put_repeats(&self, page: &mut Page, at: usize) -> Written {
         for repeat in &self.causes.repeats_run_out(self.alloc, self.source, at)? {
-            let words = self.repeat_text(repeat)?;
-            page.put_indented(words.as_str(), REASON_INDENT, INDENT)?;
+            page.write(self.repeat_text(repeat)?)?;
+            page.end_line(REASON_INDENT, INDENT)?;
         }
         Ok(())
     }
@@ -114,31 +109,33 @@ impl TextWriter<'_> {
         at: usize,
         statement: Instruction,
         told: &mut Vec<usize>,
-    ) -> Result<(), AllocError> {
-        let words = match statement {
+    ) -> Written {
+        match statement {
             Instruction::Assert(e) => return self.put_new_values(page, (at, e), VALUE_LAYOUT, told),
-            Instruction::Unlock(m) | Instruction::Wait { mutex: m, .. } => self.owner_text(at, m)?,
+            Instruction::Unlock(m) | Instruction::Wait { mutex: m, .. } => {
+                self.put_owner(page, at, m)?;
+            }
             Instruction::Release(k) => {
                 let name = self.object_name(Object::Semaphore(k));
-                format!(in self.alloc; "{name} is 65535, which is its limit")?
+                write!(page, "{name} is 65535, which is its limit")?;
             }
             _ => return Ok(()),
-        };
-        page.put_indented(words.as_str(), REASON_INDENT, INDENT)
+        }
+        page.end_line(REASON_INDENT, INDENT)
     }
 
-    // As text, who owned a mutex before the event at a place, or that it was free, and since when.
-    fn owner_text(&self, at: usize, mutex: usize) -> Result<String, AllocError> {
+    // Writes who owned a mutex before the event at a place, or that it was free, and since when.
+    fn put_owner(&self, page: &mut Page, at: usize, mutex: usize) -> Written {
         let holder = self.holder_before(at, mutex);
-        let mut words = self.holder_text(mutex, holder)?;
+        self.put_holder(page, mutex, holder)?;
         let change = self.causes.last_owner_change(at, mutex);
         if holder.is_none()
             && let Some(event) = change.and_then(|place| self.event(place))
         {
             let (step, site) = (event.step.unwrap_or(0), self.event_site(&event));
-            write!(words, " since step {step} ({}, {site})", site.name)?;
+            write!(page, " since step {step} ({}, {site})", site.name)?;
         }
-        Ok(words)
+        Ok(())
     }
 
     // Who owned a mutex before the event at a place, and since when; `None` where it was free.

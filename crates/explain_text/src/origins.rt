@@ -2,10 +2,9 @@
 
 use crate::text::TextWriter;
 use explain_cause::{Event, next_change, unchanged_since};
-use explain_lines::Page;
+use explain_lines::{Page, Written};
 use explain_run::{Object, ObjectState};
 use guest_code::program::{Expression, Instruction, Value};
-use std::alloc::AllocError;
 
 /// How many columns further to the right the locals are shown of which a value was computed.
 const NESTING: usize = 2;
@@ -37,7 +36,7 @@ impl TextWriter<'_> {
         at: usize,
         expression: Expression,
         layout: ValueLayout,
-    ) -> Result<(), AllocError> {
+    ) -> Written {
         let mut told = Vec::new(self.alloc);
         self.put_new_values(page, (at, expression), layout, &mut told)
     }
@@ -50,7 +49,7 @@ impl TextWriter<'_> {
         test: (usize, Expression),
         layout: ValueLayout,
         told: &mut Vec<usize>,
-    ) -> Result<(), AllocError> {
+    ) -> Written {
         let (at, expression) = test;
         let thread = self.event(at).map_or(0, |event| event.thread);
         let mut stack = Vec::new(self.alloc);
@@ -67,8 +66,8 @@ impl TextWriter<'_> {
                 }
                 told.push(place)?;
             }
-            let words = self.value_origin_text(name, setting, layout.is_later_change_told)?;
-            page.put_indented(words.as_str(), indent, indent.saturating_add(INDENT))?;
+            self.put_value_origin(page, name, setting, layout.is_later_change_told)?;
+            page.end_line(indent, indent.saturating_add(INDENT))?;
             if let Some((at, event)) = setting
                 && let Instruction::Set { value, .. } = event.statement
             {
@@ -82,94 +81,94 @@ impl TextWriter<'_> {
         Some((at?, self.event(at?)?))
     }
 
-    // As text, a local, its value and where it came from: `setting`, or `None` for the 0 at first.
+    // Writes a local, its value and where it came from: `setting`, or `None` for the 0 at first.
     // The next change is told also if nobody wrote before the read, which may have come too early.
-    fn value_origin_text(
+    fn put_value_origin(
         &self,
+        page: &mut Page,
         name: &str,
         setting: Option<(usize, Event)>,
         is_later_change_told: bool,
-    ) -> Result<String, AllocError> {
+    ) -> Written {
         let Some((at, event)) = setting else {
-            return format!(in self.alloc; "{name} = 0   from the start");
+            return write!(page, "{name} = 0   from the start");
         };
         let (value, step) = (event.value(), event.step.unwrap_or(0));
         let site = self.event_site(&event);
-        let mut words = format!(in self.alloc; "{name} = {value}   ")?;
+        write!(page, "{name} = {value}   ")?;
         let Some(variable) = event.variable_read() else {
-            write!(words, "set in {site}")?;
-            return Ok(words);
+            return write!(page, "set in {site}");
         };
         let x = self.object_name(Object::Variable(variable));
         match event.statement {
             Instruction::Load { .. } => {
-                write!(words, "loaded in step {step} ({}) from {x}", site.line)?;
+                write!(page, "loaded in step {step} ({}) from {x}", site.line)?;
             }
             Instruction::Cas { .. } => {
                 let did = if value == 0 { "missed" } else { "hit" };
                 let (old, _) = self.old_and_new(step);
-                write!(words, "because step {step} {did} ({site}): {x} was {old}")?;
+                write!(page, "because step {step} {did} ({site}): {x} was {old}")?;
             }
-            _ => write!(words, "read in step {step} ({site}) from {x}")?,
+            _ => write!(page, "read in step {step} ({site}) from {x}")?,
         }
-        words.push_str(self.writer_text(event.thread, at, variable)?.as_str())?;
+        self.put_writer(page, event.thread, at, variable)?;
         if is_later_change_told || self.causes.last_write(at, variable).is_none() {
-            let next = self.next_change_text(event.thread, step, variable)?;
-            words.push_str(next.as_str())?;
+            self.put_next_change(page, event.thread, step, variable)?;
         }
-        Ok(words)
+        Ok(())
     }
 
-    // As text, who wrote a variable last before `reader` read it at `at`, and what it was earlier.
-    fn writer_text(&self, reader: u8, at: usize, variable: usize) -> Result<String, AllocError> {
+    // Writes who wrote a variable last before `reader` read it at `at`, and what it was earlier.
+    fn put_writer(&self, page: &mut Page, reader: u8, at: usize, variable: usize) -> Written {
         let Some((_, event)) = self.event_with_place(self.causes.last_write(at, variable)) else {
-            return ", which nobody had written before".to_string(self.alloc);
+            return page.write(", which nobody had written before");
         };
         let (step, site) = (event.step.unwrap_or(0), self.event_site(&event));
         let (name, itself) = (site.name, itself_word(event.thread, reader));
         let x = self.object_name(Object::Variable(variable));
         let (old, _) = self.old_and_new(step);
-        let since = match unchanged_since(self.explanation.steps(), step, variable) {
-            Some(earlier) => self.since_step_text(earlier)?,
-            None => " from the start".to_string(self.alloc)?,
-        };
-        format!(in self.alloc;
-            ", which {name}{itself} set in step {step} ({site}); before, {x} was {old}{since}"
-        )
+        write!(
+            page,
+            ", which {name}{itself} set in step {step} ({site}); before, {x} was {old}"
+        )?;
+        match unchanged_since(self.explanation.steps(), step, variable) {
+            Some(earlier) => self.put_since(page, earlier),
+            None => page.write(" from the start"),
+        }
     }
 
-    // As text, that something is so since a step, and who was preempted before it, if anyone was.
-    fn since_step_text(&self, at: usize) -> Result<String, AllocError> {
+    // Writes that something is so since a step, and who was preempted before it, if anyone was.
+    fn put_since(&self, page: &mut Page, at: usize) -> Written {
         let Some(step) = self.step(at) else {
-            return Ok(String::new(self.alloc));
+            return Ok(());
         };
         let site = self.site(step.line.thread, step.instruction);
-        let (name, line) = (site.name, site.line);
-        let mut words = format!(in self.alloc; " since step {at} ({name}, {line})")?;
+        write!(page, " since step {at} ({}, {})", site.name, site.line)?;
         if let Some(before) = at.checked_sub(1)
             && self.is_preempted_after(before)
             && let Some(other) = self.thread_of_step(before)
         {
-            write!(words, ", where {} was interrupted", self.thread_name(other))?;
+            write!(page, ", where {} was interrupted", self.thread_name(other))?;
         }
-        Ok(words)
+        Ok(())
     }
 
-    // As text, who changed a variable next after step `read`; empty if none, or that step, did.
-    fn next_change_text(
+    // Writes who changed a variable next after step `read`; nothing if none, or that step, did.
+    fn put_next_change(
         &self,
+        page: &mut Page,
         reader: u8,
         read: usize,
         variable: usize,
-    ) -> Result<String, AllocError> {
+    ) -> Written {
         let next = next_change(self.explanation.steps(), read, variable);
         let Some(at) = next.filter(|at| *at != read) else {
-            return Ok(String::new(self.alloc));
+            return Ok(());
         };
         let thread = self.thread_of_step(at).unwrap_or(reader);
         let (name, itself) = (self.thread_name(thread), itself_word(thread, reader));
         let (_, new) = self.old_and_new(at);
-        format!(in self.alloc; "; {name}{itself} made it {new} in step {at}")
+        write!(page, "; {name}{itself} made it {new} in step {at}")
     }
 
     // A variable's values before and after the step at a place; zeros where that is on no variable.
@@ -192,7 +191,7 @@ fn push_locals(
     at: usize,
     indent: usize,
     expression: Expression,
-) -> Result<(), AllocError> {
+) -> Written {
     let (first, second) = match expression {
         Expression::Single(a) => (a, a),
         Expression::Both(a, _, b) => (a, b),

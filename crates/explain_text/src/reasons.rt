@@ -1,7 +1,7 @@
 //! Why threads can't go on. In a circle each thread waits, perhaps through others, for each.
 
 use crate::text::{TextWriter, push_entry};
-use explain_lines::{Page, width_of};
+use explain_lines::{Page, Written, width_of};
 use explain_run::{Holder, Object, Reason};
 use explain_waits::Wait;
 use replay::Act;
@@ -23,7 +23,7 @@ struct Widths {
 impl TextWriter<'_> {
     /// Where the schedule is stuck or a thread failed, writes why each blocked one can't go on and
     /// who could end the waits; then why the next step can't be taken, and who is still enabled.
-    pub fn put_reasons(&self, page: &mut Page) -> Result<(), AllocError> {
+    pub fn put_reasons(&self, page: &mut Page) -> Written {
         let title = match self.explanation.kind() {
             Some(Kind::Stuck) => Some("Why nobody can go on"),
             _ if self.causes.failure().is_some() => Some("Blocked meanwhile"),
@@ -40,7 +40,7 @@ impl TextWriter<'_> {
         self.put_continuation(page)
     }
 
-    fn put_blocked_threads(&self, page: &mut Page) -> Result<(), AllocError> {
+    fn put_blocked_threads(&self, page: &mut Page) -> Written {
         let widths = self.column_widths()?;
         for circle in self.waits.circles() {
             self.put_circle(page, *circle, widths)?;
@@ -53,7 +53,7 @@ impl TextWriter<'_> {
     }
 
     // Writes the rows of a circle, and that its threads wait for one another.
-    fn put_circle(&self, page: &mut Page, circle: Mask, widths: Widths) -> Result<(), AllocError> {
+    fn put_circle(&self, page: &mut Page, circle: Mask, widths: Widths) -> Written {
         let (mut names, mut size) = (String::new(self.alloc), 0_usize);
         let waits = self.waits.all().iter();
         for wait in waits.filter(|wait| circle.has(wait.thread)) {
@@ -61,19 +61,18 @@ impl TextWriter<'_> {
             push_entry(&mut names, self.thread_name(wait.thread))?;
             size = size.saturating_add(1);
         }
-        let words = match size {
-            1 => format!(in self.alloc; "  {names} waits for itself")?,
-            _ => format!(in self.alloc; "  {names} wait for one another")?,
-        };
-        page.put_line(words.as_str(), INDENT)
+        match size {
+            1 => page.put_line(format_args!("  {names} waits for itself"), INDENT),
+            _ => page.put_line(format_args!("  {names} wait for one another"), INDENT),
+        }
     }
 
-    fn put_wait_row(&self, page: &mut Page, wait: &Wait, widths: Widths) -> Result<(), AllocError> {
+    fn put_wait_row(&self, page: &mut Page, wait: &Wait, widths: Widths) -> Written {
         let (name, place) = (self.thread_name(wait.thread), self.blocked_site(wait)?);
-        let reason = self.reason_text(wait)?;
         let (n, p) = (widths.name, widths.place);
-        let row = format!(in self.alloc; "  {name:<n$}  {place:<p$}   {reason}")?;
-        page.put_line(row.as_str(), INDENT)
+        write!(page, "  {name:<n$}  {place:<p$}   ")?;
+        self.put_reason_of(page, wait)?;
+        page.end_line(0, INDENT)
     }
 
     /// As text, what a blocked thread waits to do; `retake` and the mutex where it was woken.
@@ -98,43 +97,48 @@ impl TextWriter<'_> {
         Ok(widths)
     }
 
-    // As text, why a thread can't go on: who has what it waits for, or since when it waits.
-    fn reason_text(&self, wait: &Wait) -> Result<String, AllocError> {
+    // Writes why a thread can't go on: who has what it waits for, or since when it waits.
+    fn put_reason_of(&self, page: &mut Page, wait: &Wait) -> Written {
         let name = self.object_name(wait.reason.object());
         match wait.reason {
             Reason::Lock(m) | Reason::Retake(m) => {
                 let holder = self.explanation.holder(m);
-                let mut words = self.holder_text(m, holder)?;
-                words.push_str(self.holder_end_text(holder))?;
-                Ok(words)
+                self.put_holder(page, m, holder)?;
+                page.write(self.holder_end_text(holder))
             }
             Reason::Acquire(k) => {
                 let steps = self.explanation.steps().iter().enumerate();
                 let taken = steps.filter(|(_, step)| step.line.act == Act::Acquire(k));
                 let Some((at, step)) = taken.last() else {
-                    return format!(in self.alloc; "{name} is 0 from the start");
+                    return write!(page, "{name} is 0 from the start");
                 };
                 let site = self.site(step.line.thread, step.instruction);
                 let (taker, line) = (site.name, site.line);
-                format!(in self.alloc; "{name} is 0; {taker} took the last one (step {at}, {line})")
+                write!(
+                    page,
+                    "{name} is 0; {taker} took the last one (step {at}, {line})"
+                )
             }
             Reason::Signal(_) => {
                 let since = wait.since.unwrap_or(0);
-                format!(in self.alloc; "waits for a signal on {name} since step {since}")
+                write!(page, "waits for a signal on {name} since step {since}")
             }
         }
     }
 
-    /// As text, who owns a mutex and since which step, or that it is free if `holder` is `None`.
-    pub fn holder_text(&self, mutex: usize, holder: Option<Holder>) -> Result<String, AllocError> {
+    /// Writes who owns a mutex and since which step, or that it is free if `holder` is `None`.
+    pub fn put_holder(&self, page: &mut Page, mutex: usize, holder: Option<Holder>) -> Written {
         let name = self.object_name(Object::Mutex(mutex));
         let Some(Holder { thread, since }) = holder else {
-            return format!(in self.alloc; "{name} is free");
+            return write!(page, "{name} is free");
         };
         let instruction = self.step(since).map_or(0, |step| step.instruction);
         let site = self.site(thread, instruction);
         let (owner, line) = (site.name, site.line);
-        format!(in self.alloc; "{name} is held by {owner} (since step {since}, {line})")
+        write!(
+            page,
+            "{name} is held by {owner} (since step {since}, {line})"
+        )
     }
 
     // As text, that the holder ended or stopped and owns its mutex still; empty if neither is so.
@@ -159,28 +163,27 @@ impl TextWriter<'_> {
     }
 
     // Writes why the schedule's next step can't be taken, and who could go on if it isn't complete.
-    fn put_continuation(&self, page: &mut Page) -> Result<(), AllocError> {
-        let kind = self.explanation.kind();
-        let mut words = String::new(self.alloc);
-        if let Some(thread) = self.explanation.refused() {
-            self.put_refused_step(&mut words, thread)?;
-            words.push_str(match kind {
+    fn put_continuation(&self, page: &mut Page) -> Written {
+        let (kind, refused) = (self.explanation.kind(), self.explanation.refused());
+        if kind.is_some() && refused.is_none() {
+            return Ok(());
+        }
+        if let Some(thread) = refused {
+            self.put_refused_step(page, thread)?;
+            page.write(match kind {
                 Some(Kind::Stuck) => " Nobody can go on.",
                 Some(_) => " The run was over before it.",
                 None => " ",
             })?;
         }
         if kind.is_none() {
-            self.put_enabled(&mut words)?;
+            self.put_enabled(page)?;
         }
-        if words.is_empty() {
-            return Ok(());
-        }
-        page.put_line(words.as_str(), 2)?;
+        page.end_line(0, 2)?;
         page.put_empty_line()
     }
 
-    fn put_enabled(&self, words: &mut String) -> Result<(), AllocError> {
+    fn put_enabled(&self, page: &mut Page) -> Written {
         let mut names = String::new(self.alloc);
         for t in 0..self.source.program.threads() {
             let standing = self.explanation.thread_state(t);
@@ -188,23 +191,24 @@ impl TextWriter<'_> {
                 push_entry(&mut names, format_args!("{} ({t})", self.thread_name(t)))?;
             }
         }
-        write!(words, "Could go on: {names}")
+        write!(page, "Could go on: {names}")
     }
 
-    fn put_refused_step(&self, words: &mut String, thread: u8) -> Result<(), AllocError> {
+    fn put_refused_step(&self, page: &mut Page, thread: u8) -> Written {
         let at = self.explanation.steps().len();
-        write!(words, "Step {at} can't be taken: ")?;
+        write!(page, "Step {at} can't be taken: ")?;
         let Some(standing) = self.explanation.thread_state(thread) else {
-            return write!(words, "there is no thread {thread}.");
+            return write!(page, "there is no thread {thread}.");
         };
-        write!(words, "{thread} {}", self.thread_name(thread))?;
+        write!(page, "{thread} {}", self.thread_name(thread))?;
         match (self.waits.get(thread), standing.is_stopped()) {
             (Some(wait), _) => {
-                let (blocked, why) = (self.blocked_site(wait)?, self.reason_text(wait)?);
-                write!(words, " is blocked {blocked}; {why}.")
+                write!(page, " is blocked {}; ", self.blocked_site(wait)?)?;
+                self.put_reason_of(page, wait)?;
+                page.write(".")
             }
-            (None, true) => words.push_str(" has stopped."),
-            (None, false) => words.push_str(" has ended."),
+            (None, true) => page.write(" has stopped."),
+            (None, false) => page.write(" has ended."),
         }
     }
 }

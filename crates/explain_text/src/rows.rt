@@ -2,8 +2,8 @@
 
 use crate::text::{TextWriter, push_entry};
 use explain_lines::{
-    Content, Count, GAP, InLine, Page, STEP, line_cell, pad_to, put_repeated, put_truncated,
-    width_of,
+    Content, Count, GAP, InLine, Page, STEP, Written, line_cell, pad_to, put_repeated,
+    put_truncated, width_of,
 };
 use explain_run::{Object, ObjectState, Step, ThreadState, op_text};
 use guest_code::program::{Expression, Instruction, Value};
@@ -124,7 +124,7 @@ impl TextWriter<'_> {
             || self.thread_of_step(at.saturating_sub(1)) != self.thread_of_step(at)
     }
 
-    fn put_header(&self, page: &mut Page) -> Result<(), AllocError> {
+    fn put_header(&self, page: &mut Page) -> Written {
         let columns = &self.columns;
         let (names, rules) = (String::new(self.alloc), String::new(self.alloc));
         let mut header = Header { names, rules };
@@ -151,7 +151,7 @@ impl TextWriter<'_> {
     }
 
     // Writes a row for each thread that an assertion stopped before its first step.
-    fn put_initial_stops(&self, page: &mut Page) -> Result<(), AllocError> {
+    fn put_initial_stops(&self, page: &mut Page) -> Written {
         for t in 0..self.source.program.threads() {
             let start = self.explanation.starts().get(t as usize);
             if start.is_some_and(|start| start.stop.is_some()) {
@@ -182,7 +182,8 @@ impl TextWriter<'_> {
         let room = self.columns.end().max(self.columns.width / 2);
         let room = room.saturating_sub(width_of(row.as_str()));
         put_truncated(&mut row, cell.as_str(), room)?;
-        self.put_row(page, row.as_str(), self.changed_values(steps)?.as_str())?;
+        page.write(self.changed_values(steps)?)?;
+        self.end_row(page, row.as_str())?;
         Ok(0)
     }
 
@@ -203,11 +204,11 @@ impl TextWriter<'_> {
         Ok(changes)
     }
 
-    // Writes a row with `changes` in its last column, further right where a statement takes more than
-    // its own column; what doesn't fit there goes to further lines.
-    fn put_row(&self, page: &mut Page, row: &str, changes: &str) -> Result<(), AllocError> {
+    // Ends a row, of which the last column is written, further right where a statement takes more
+    // than its own column; what doesn't fit there goes to further lines.
+    fn end_row(&self, page: &mut Page, row: &str) -> Written {
         let (start, column) = (width_of(row).saturating_add(GAP), self.columns.changes);
-        page.put_columns(row, changes, start.max(column), column)
+        page.end_columns(row, start.max(column), column)
     }
 
     // Adds to a row an instruction's line and, in its thread's column, `action`. In a shared column
@@ -218,7 +219,7 @@ impl TextWriter<'_> {
         thread: u8,
         instruction: usize,
         action: &str,
-    ) -> Result<(), AllocError> {
+    ) -> Written {
         let line = line_cell(self.alloc, self.line(thread, instruction))?;
         let end = self.columns.margin.saturating_sub(GAP);
         pad_to(row, end.saturating_sub(width_of(line.as_str())))?;
@@ -232,12 +233,7 @@ impl TextWriter<'_> {
     }
 
     // Adds a name, cut off to `room` columns, or the thread's number if another name begins alike.
-    fn put_thread_label(
-        &self,
-        row: &mut String,
-        thread: u8,
-        room: usize,
-    ) -> Result<(), AllocError> {
+    fn put_thread_label(&self, row: &mut String, thread: u8, room: usize) -> Written {
         let name = self.thread_name(thread);
         let begun = name.as_bytes().get(..room.saturating_sub(2)).unwrap_or(&[]);
         let begins_alike = |other: u8| self.thread_name(other).as_bytes().starts_with(begun);
@@ -249,7 +245,7 @@ impl TextWriter<'_> {
         row.push_str(": ")
     }
 
-    fn put_step_rows(&self, page: &mut Page, at: usize) -> Result<(), AllocError> {
+    fn put_step_rows(&self, page: &mut Page, at: usize) -> Written {
         let Some(step) = self.step(at) else {
             return Ok(());
         };
@@ -258,7 +254,8 @@ impl TextWriter<'_> {
         let action = self.action_text(thread, step.instruction, retakes)?;
         let mut row = format!(in self.alloc; "{at:>4}")?;
         self.put_action(&mut row, thread, step.instruction, action.as_str())?;
-        self.put_row(page, row.as_str(), self.changes_text(at, step)?.as_str())?;
+        self.put_changes(page, at, step)?;
+        self.end_row(page, row.as_str())?;
         if step.line.stop == Some(Stop::Assert) {
             self.put_stop_row(page, format!(in self.alloc; "{at:>4}")?, thread)?;
         }
@@ -268,74 +265,74 @@ impl TextWriter<'_> {
         Ok(())
     }
 
-    // As text, what a step and its local run changed; of a store, also who wrote before it.
-    fn changes_text(&self, at: usize, step: &Step) -> Result<String, AllocError> {
+    // Writes what a step and its local run changed; of a store, also who wrote before it.
+    fn put_changes(&self, page: &mut Page, at: usize, step: &Step) -> Written {
         let thread = step.line.thread;
-        let mut changes = self.object_change_text(step)?;
+        self.put_object_change(page, step)?;
         for setting in step.assignments.iter() {
-            if !changes.is_empty() {
-                changes.push_str("; ")?;
+            if !page.is_at_line_start() {
+                page.write("; ")?;
             }
             if setting.instruction != step.instruction {
                 let line = InLine(self.line(thread, setting.instruction));
-                write!(changes, "{line}: ")?;
+                write!(page, "{line}: ")?;
             }
             let (name, value) = (self.local_name(thread, setting.local), setting.value);
-            write!(changes, "{name} = {value}")?;
+            write!(page, "{name} = {value}")?;
             let is_of_step = setting.instruction == step.instruction;
             if is_of_step && matches!(step.line.act, Act::Load { .. }) {
-                write!(changes, " from {}", self.object_name(step.object))?;
+                write!(page, " from {}", self.object_name(step.object))?;
             }
         }
         if let Some((writer, since)) = self.intervening_writer(at, step) {
             let (name, x) = (self.thread_name(writer), self.object_name(step.object));
-            write!(changes, "; {name} wrote {x} since step {since}")?;
+            write!(page, "; {name} wrote {x} since step {since}")?;
         }
-        Ok(changes)
+        Ok(())
     }
 
-    // As text, what a step did to its object, or, after `FALSE:`, why it failed; empty for a load.
-    fn object_change_text(&self, step: &Step) -> Result<String, AllocError> {
+    // Writes what a step did to its object, or, after `FALSE:`, why it failed; nothing for a load.
+    fn put_object_change(&self, page: &mut Page, step: &Step) -> Written {
         let name = self.object_name(step.object);
         match (step.line.act, step.line.stop) {
             (Act::Unlock(m) | Act::Wait { mutex: m, .. }, Some(Stop::NotHeld)) => {
                 let thread = self.thread_name(step.line.thread);
                 let m = self.object_name(Object::Mutex(m));
-                format!(in self.alloc; "FALSE: {thread} doesn't own {m}")
+                write!(page, "FALSE: {thread} doesn't own {m}")
             }
-            (_, Some(Stop::SemFull)) => "FALSE: its count can't rise".to_string(self.alloc),
-            (Act::Load { .. }, _) => Ok(String::new(self.alloc)),
+            (_, Some(Stop::SemFull)) => page.write("FALSE: its count can't rise"),
+            (Act::Load { .. }, _) => Ok(()),
             (Act::Wait { mutex: m, .. }, _) => {
                 let m = self.object_name(Object::Mutex(m));
-                format!(in self.alloc; "{m} is free; waits for {name}")
+                write!(page, "{m} is free; waits for {name}")
             }
             (Act::Signal(_) | Act::Broadcast(_), _) if step.woken.is_empty() => {
-                "nobody waits".to_string(self.alloc)
+                page.write("nobody waits")
             }
             (Act::Signal(_) | Act::Broadcast(_), _) => {
-                format!(in self.alloc; "wakes {}", self.thread_names(step.woken.as_slice())?)
+                write!(page, "wakes {}", self.thread_names(step.woken.as_slice())?)
             }
-            _ => self.state_change_text(name, step),
+            _ => self.put_state_change(page, name, step),
         }
     }
 
-    // As text, an object's value, count or owner before and after a step; empty for a condition.
-    fn state_change_text(&self, name: &str, step: &Step) -> Result<String, AllocError> {
+    // Writes an object's value, count or owner before and after a step; nothing for a condition.
+    fn put_state_change(&self, page: &mut Page, name: &str, step: &Step) -> Written {
         match (step.old, step.new) {
             (_, ObjectState::Owner(Some(owner))) => {
-                format!(in self.alloc; "{name} -> {}", self.thread_name(owner))
+                write!(page, "{name} -> {}", self.thread_name(owner))
             }
-            (_, ObjectState::Owner(None)) => format!(in self.alloc; "{name} is free"),
+            (_, ObjectState::Owner(None)) => write!(page, "{name} is free"),
             (ObjectState::Value(old), ObjectState::Value(new)) if old == new => {
-                format!(in self.alloc; "{name} {new} (unchanged)")
+                write!(page, "{name} {new} (unchanged)")
             }
             (ObjectState::Value(old), ObjectState::Value(new)) => {
-                format!(in self.alloc; "{name} {old} -> {new}")
+                write!(page, "{name} {old} -> {new}")
             }
             (ObjectState::Count(old), ObjectState::Count(new)) => {
-                format!(in self.alloc; "{name} {old} -> {new}")
+                write!(page, "{name} {old} -> {new}")
             }
-            _ => Ok(String::new(self.alloc)),
+            _ => Ok(()),
         }
     }
 
@@ -355,47 +352,29 @@ impl TextWriter<'_> {
     }
 
     // Writes the row of an assertion that stopped a thread; `row` has its first column.
-    fn put_stop_row(&self, page: &mut Page, mut row: String, thread: u8) -> Result<(), AllocError> {
+    fn put_stop_row(&self, page: &mut Page, mut row: String, thread: u8) -> Written {
         let Some(standing) = self.explanation.thread_state(thread) else {
             return Ok(());
         };
         self.put_action(&mut row, thread, standing.instruction, ASSERT)?;
-        let changes = match self.source.instruction(thread, standing.instruction) {
-            Some(Instruction::Assert(e)) => self.assertion_text(standing, e)?,
-            _ => String::new(self.alloc),
-        };
-        self.put_row(page, row.as_str(), changes.as_str())
-    }
-
-    // As text, an assertion that failed, with the values of locals in this state: `FALSE: 1 == 2`.
-    fn assertion_text(
-        &self,
-        standing: &ThreadState,
-        test: Expression,
-    ) -> Result<String, AllocError> {
-        let value = |value: Value| match value {
-            Value::Literal(n) => n,
-            Value::Local(r) => standing.locals.get(r).copied().unwrap_or(0),
-        };
-        match test {
-            Expression::Single(a) => format!(in self.alloc; "FALSE: {}", value(a)),
-            Expression::Both(a, op, b) => {
-                format!(in self.alloc; "FALSE: {} {} {}", value(a), op_text(op), value(b))
-            }
+        let statement = self.source.instruction(thread, standing.instruction);
+        if let Some(Instruction::Assert(test)) = statement {
+            put_assertion(page, standing, test)?;
         }
+        self.end_row(page, row.as_str())
     }
 
-    fn put_preemption_row(&self, page: &mut Page, step: &Step) -> Result<(), AllocError> {
+    fn put_preemption_row(&self, page: &mut Page, step: &Step) -> Written {
         let thread = step.line.thread as usize;
         let (column, width) = (self.columns.start(thread), self.columns.width_of(thread));
         let row = format!(in self.alloc; "{:column$}{:~<width$}", "", "")?;
         let site = self.site(step.line.thread, step.next);
-        let words = format!(in self.alloc; "{} is interrupted before {site}", site.name)?;
-        page.put_columns(row.as_str(), words.as_str(), 0, column)
+        write!(page, "{} is interrupted before {site}", site.name)?;
+        page.end_columns(row.as_str(), 0, column)
     }
 
     // In a deadlock, writes whether each thread with a column has ended or is blocked, and at what.
-    fn put_end_rows(&self, page: &mut Page) -> Result<(), AllocError> {
+    fn put_end_rows(&self, page: &mut Page) -> Written {
         if self.explanation.kind() != Some(Kind::Stuck) || self.columns.own == 0 {
             return Ok(());
         }
@@ -412,12 +391,7 @@ impl TextWriter<'_> {
     }
 
     // Adds to `row` whether a thread ended or is blocked, and to `under`, the next row, on what.
-    fn put_end_cells(
-        &self,
-        row: &mut String,
-        under: &mut String,
-        thread: u8,
-    ) -> Result<(), AllocError> {
+    fn put_end_cells(&self, row: &mut String, under: &mut String, thread: u8) -> Written {
         let start = self.columns.start(thread as usize);
         let width = self.columns.width_of(thread as usize);
         pad_to(row, start)?;
@@ -448,7 +422,7 @@ struct Header {
 
 impl Header {
     // Adds the name of a column that begins at `start`, and under it dashes, `width` of them.
-    fn put_column(&mut self, start: usize, width: usize, name: &str) -> Result<(), AllocError> {
+    fn put_column(&mut self, start: usize, width: usize, name: &str) -> Written {
         pad_to(&mut self.names, start)?;
         self.names.push_str(name)?;
         pad_to(&mut self.rules, start)?;
@@ -462,4 +436,18 @@ fn is_write(act: Act) -> bool {
         act,
         Act::Store { .. } | Act::Add { .. } | Act::Cas { hit: Some(_), .. }
     )
+}
+
+// Writes an assertion that failed, with the values of locals in this state: `FALSE: 1 == 2`.
+fn put_assertion(page: &mut Page, standing: &ThreadState, test: Expression) -> Written {
+    let value = |value: Value| match value {
+        Value::Literal(n) => n,
+        Value::Local(r) => standing.locals.get(r).copied().unwrap_or(0),
+    };
+    match test {
+        Expression::Single(a) => write!(page, "FALSE: {}", value(a)),
+        Expression::Both(a, op, b) => {
+            write!(page, "FALSE: {} {} {}", value(a), op_text(op), value(b))
+        }
+    }
 }

@@ -1,7 +1,7 @@
 //! The explanation of a schedule as text, and the names and places that its parts tell.
 
 use explain_cause::{Causes, Event, InTurns, Turns};
-use explain_lines::{Columns, FileLine, InLine, Marks, Page};
+use explain_lines::{Columns, FileLine, InLine, Marks, Page, Written};
 use explain_run::{Explanation, Object, Source, Statement, Step, name_text};
 use explain_waits::Waits;
 use guest_code::program::Instruction;
@@ -111,7 +111,7 @@ impl fmt::Display for Site<'_> {
 }
 
 /// Adds an entry to a text that lists entries, after a comma unless it is the first.
-pub fn push_entry<D: fmt::Display + Drop>(list: &mut String, entry: D) -> Result<(), AllocError> {
+pub fn push_entry<D: fmt::Display + Drop>(list: &mut String, entry: D) -> Written {
     if !list.is_empty() {
         list.push_str(", ")?;
     }
@@ -164,10 +164,8 @@ impl<'a> TextWriter<'a> {
         }
         self.put_reasons(&mut page)?;
         if shown != steps {
-            let words = format!(in self.alloc;
-                "{shown} of {steps} steps are shown; --all shows each."
-            )?;
-            page.put_line(words.as_str(), 2)?;
+            let words = format_args!("{shown} of {steps} steps are shown; --all shows each.");
+            page.put_line(words, 2)?;
         }
         page.put_unwrapped(self.replay_command()?.as_str())?;
         Ok(page.into_bytes())

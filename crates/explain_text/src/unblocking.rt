@@ -3,7 +3,7 @@
 use crate::origins::ValueLayout;
 use crate::text::{TextWriter, push_entry};
 use explain_cause::Event;
-use explain_lines::Page;
+use explain_lines::{Page, Written};
 use explain_run::{Object, Reason};
 use explain_waits::{Fate, Statement, Wait};
 use guest_code::program::Instruction;
@@ -24,7 +24,7 @@ const VALUE_LAYOUT: ValueLayout = ValueLayout {
 impl TextWriter<'_> {
     /// Writes for each object that threads wait for, a mutex only if its owner ended, what they would
     /// do if they were woken, who could end the waits, and what came of the statements that could.
-    pub fn put_unblocking(&self, page: &mut Page) -> Result<(), AllocError> {
+    pub fn put_unblocking(&self, page: &mut Page) -> Written {
         let waits = self.waits.all();
         for (at, wait) in waits.iter().enumerate() {
             let object = wait.reason.object();
@@ -37,8 +37,7 @@ impl TextWriter<'_> {
                 _ => continue,
             };
             let name = self.object_name(object);
-            let title = format!(in self.alloc; "Who could {verb} {name}")?;
-            page.put_line(title.as_str(), 0)?;
+            page.put_line(format_args!("Who could {verb} {name}"), 0)?;
             for waiter in waits.iter().skip(at) {
                 if waiter.reason == wait.reason {
                     self.put_look(page, waiter)?;
@@ -50,7 +49,7 @@ impl TextWriter<'_> {
     }
 
     // Writes what a thread would do if it were woken now; nothing if it loads nothing and goes on.
-    fn put_look(&self, page: &mut Page, wait: &Wait) -> Result<(), AllocError> {
+    fn put_look(&self, page: &mut Page, wait: &Wait) -> Written {
         let mut seen = BTreeSet::new(self.alloc);
         let mut values = String::new(self.alloc);
         for variable in &wait.look.variables {
@@ -65,11 +64,11 @@ impl TextWriter<'_> {
             false => "go on",
         };
         let name = self.thread_name(wait.thread);
-        let mut words = format!(in self.alloc; "  {name} would {verb} if it were woken now")?;
+        write!(page, "  {name} would {verb} if it were woken now")?;
         if !values.is_empty() {
-            write!(words, ": {values}")?;
+            write!(page, ": {values}")?;
         }
-        page.put_line(words.as_str(), INDENT)
+        page.end_line(0, INDENT)
     }
 
     // As text, a variable's value at the end, and the one that a thread loaded last, if another.
@@ -92,7 +91,7 @@ impl TextWriter<'_> {
     }
 
     // Writes which statements could end this wait and what came of them, or that none is left.
-    fn put_unblocking_threads(&self, page: &mut Page, wait: &Wait) -> Result<(), AllocError> {
+    fn put_unblocking_threads(&self, page: &mut Page, wait: &Wait) -> Written {
         let mut is_none = true;
         let mut is_one_ahead = false;
         for thread in 0..self.source.program.threads() {
@@ -120,11 +119,7 @@ impl TextWriter<'_> {
     }
 
     // Writes how often a thread took or jumped over statements that end a wait, and which is ahead.
-    fn put_statement_fates(
-        &self,
-        page: &mut Page,
-        statements: &[Statement],
-    ) -> Result<(), AllocError> {
+    fn put_statement_fates(&self, page: &mut Page, statements: &[Statement]) -> Written {
         if let Some(at) = statements.iter().filter_map(step_of).max() {
             let times = statements.iter().filter_map(step_of).count();
             self.put_taken(page, at, times)?;
@@ -155,45 +150,45 @@ impl TextWriter<'_> {
     }
 
     // Writes that a thread took `times` steps that could end a wait, the last one at place `at`.
-    fn put_taken(&self, page: &mut Page, at: usize, times: usize) -> Result<(), AllocError> {
+    fn put_taken(&self, page: &mut Page, at: usize, times: usize) -> Written {
         let Some(step) = self.step(at) else {
             return Ok(());
         };
         let site = self.site(step.line.thread, step.instruction);
-        let mut words = format!(in self.alloc; "  {} did ", site.name)?;
+        write!(page, "  {} did ", site.name)?;
         if times > 1 {
-            write!(words, "{times} times, the last time ")?;
+            write!(page, "{times} times, the last time ")?;
         }
-        write!(words, "in step {at} ({})", site.line)?;
+        write!(page, "in step {at} ({})", site.line)?;
         match step.line.act {
             Act::Signal(_) | Act::Broadcast(_) if step.woken.is_empty() => {
-                words.push_str(", when nobody waited")?;
+                page.write(", when nobody waited")?;
             }
             Act::Signal(_) | Act::Broadcast(_) => {
                 let woken = self.thread_names(step.woken.as_slice())?;
-                write!(words, ", and woke {woken}")?;
+                write!(page, ", and woke {woken}")?;
             }
             _ => {}
         }
-        page.put_line(words.as_str(), INDENT)
+        page.end_line(0, INDENT)
     }
 
     // Writes that a thread has yet to come to a statement, or may, and where it is held up, if so.
-    fn put_ahead(&self, page: &mut Page, ahead: Statement) -> Result<(), AllocError> {
+    fn put_ahead(&self, page: &mut Page, ahead: Statement) -> Written {
         let thread = ahead.thread;
         let site = self.site(thread, ahead.instruction);
         let verb = match ahead.fate {
             Fate::Perhaps => "may come to",
             _ => "has yet to come to",
         };
-        let mut words = format!(in self.alloc; "  {} {verb} {}", site.name, site.line)?;
+        write!(page, "  {} {verb} {}", site.name, site.line)?;
         let standing = self.explanation.thread_state(thread);
         if let Some(wait) = self.waits.get(thread) {
-            write!(words, ", but is blocked {}", self.blocked_site(wait)?)?;
+            write!(page, ", but is blocked {}", self.blocked_site(wait)?)?;
         } else if standing.is_some_and(|standing| standing.is_stopped()) {
-            write!(words, ", but stopped at {}", self.line_at_end(thread))?;
+            write!(page, ", but stopped at {}", self.line_at_end(thread))?;
         }
-        page.put_line(words.as_str(), INDENT)
+        page.end_line(0, INDENT)
     }
 
     // Writes that a thread jumped over statements `times` times, last by event `at`, and the test.
@@ -203,24 +198,25 @@ impl TextWriter<'_> {
         at: usize,
         passed: Statement,
         times: usize,
-    ) -> Result<(), AllocError> {
+    ) -> Written {
         let site = self.site(passed.thread, passed.instruction);
-        let mut words = format!(in self.alloc; "  {} passed by ", site.name)?;
+        write!(page, "  {} passed by ", site.name)?;
         match self.event(at).and_then(|event| event.step) {
-            _ if times < 2 => write!(words, "{site}")?,
-            Some(at) => write!(words, "{times} times, the last time in step {at} ({site})")?,
-            None => write!(words, "{times} times, the last time at the start ({site})")?,
+            _ if times < 2 => write!(page, "{site}")?,
+            Some(at) => write!(page, "{times} times, the last time in step {at} ({site})")?,
+            None => write!(page, "{times} times, the last time at the start ({site})")?,
         }
         if let Some((at, event)) = self.deciding_event(at) {
             if let Instruction::SkipIfZero(expression, _) = event.statement {
-                write!(words, ",{}", self.test_text(&event)?)?;
-                page.put_line(words.as_str(), INDENT)?;
+                page.write(",")?;
+                self.put_test(page, &event)?;
+                page.end_line(0, INDENT)?;
                 return self.put_values(page, at, expression, VALUE_LAYOUT);
             }
             let jump = self.event_site(&event);
-            write!(words, ", by `{}` in {}", jump.statement, jump.line)?;
+            write!(page, ", by `{}` in {}", jump.statement, jump.line)?;
         }
-        page.put_line(words.as_str(), INDENT)
+        page.end_line(0, INDENT)
     }
 
     // What decided on the jump at place `at`: the innermost test round a `leave`, or else the jump.
