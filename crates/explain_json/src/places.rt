@@ -1,7 +1,7 @@
 //! What statements say, where they are in the text, and which files its lines come from.
 
 use crate::facts::Facts;
-use crate::writer::{Writer, Written};
+use crate::writer::{Token, Writer};
 use explain_run::{Statement, name_text};
 use guest_syntax::Pos;
 use guest_syntax::pieces::Pieces;
@@ -98,55 +98,49 @@ impl Facts<'_> {
 
 impl<S: Serializer> Writer<'_, S> {
     /// Writes where a statement begins and ends: `column`, `end`, `from` and `line`.
-    pub fn put_place(&mut self, statement: Statement<'_>) -> Written<S> {
-        self.put_extent(statement)?;
+    pub fn put_place(&mut self, statement: Statement<'_>) {
+        self.put_extent(statement);
         self.put_line_number(statement)
     }
 
     /// Writes the `line` in which a statement begins, null at the end of a thread's code. The other
     /// keys of its place are [`Writer::put_extent`]'s: in a step, `held` is between these and it.
-    pub fn put_line_number(&mut self, statement: Statement<'_>) -> Written<S> {
+    pub fn put_line_number(&mut self, statement: Statement<'_>) {
         let begin = self.facts.statement_start(statement);
         self.put("line", begin.map(|begin| begin.line))
     }
 
     /// Writes the `column` at which a statement begins and its `end`, null at the end of a thread's
     /// code, and, where a preprocessor's mark comes before it, the line of a file it comes `from`.
-    pub fn put_extent(&mut self, statement: Statement<'_>) -> Written<S> {
+    pub fn put_extent(&mut self, statement: Statement<'_>) {
         self.put_extent_from(self.facts.statement_start(statement))
     }
 
     /// Writes the `column`, `end` and `from` of what begins at a place of the text, as
     /// [`Writer::put_extent`] does of a statement.
-    pub fn put_extent_from(&mut self, begin: Option<Pos>) -> Written<S> {
+    pub fn put_extent_from(&mut self, begin: Option<Pos>) {
         let facts = self.facts;
-        self.put("column", begin.map(|begin| begin.col))?;
+        self.put("column", begin.map(|begin| begin.col));
         let end = begin.and_then(|begin| facts.ends.get(&(begin.line, begin.col)));
-        self.put("end", end)?;
+        self.put("end", end);
         let from = begin.and_then(|begin| facts.line_origin(begin.line));
         self.put_some("from", from)
     }
 
     /// Writes the list `turns`, of each loop round a statement which turn it is in and `of` how many,
     /// the outer loop first; nothing where its thread didn't carry it out in a turn after the first.
-    pub fn put_turns(&mut self, statement: Statement<'_>) -> Written<S> {
+    pub fn put_turns(&mut self, statement: Statement<'_>) {
         let turns = self.facts.turns.of(statement.thread, statement.instruction);
         if turns.len() == 0 {
-            return Ok(());
+            return;
         }
-        self.begin_list("turns")?;
+        self.begin_list("turns");
         for (turn, of) in (0..turns.len()).filter_map(|number| turns.get(number)) {
-            self.out.begin_map(None)?;
-            self.put("of", of)?;
-            self.put("turn", turn)?;
-            self.out.end_map()?;
+            self.token(Token::Object);
+            self.put("of", of);
+            self.put("turn", turn);
+            self.token(Token::ObjectEnd);
         }
-        self.out.end_seq()
-    }
-
-    /// Writes the `text` of a statement: how it is spelled.
-    pub fn put_statement_text(&mut self, statement: Statement<'_>) -> Written<S> {
-        self.out.key("text")?;
-        self.out.collect_str(&statement)
+        self.token(Token::ListEnd);
     }
 }

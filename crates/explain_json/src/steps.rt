@@ -2,77 +2,79 @@
 
 use crate::objects::ObjectStates;
 use crate::words::{act_word, stop_reason_word};
-use crate::writer::{Writer, Written};
+use crate::writer::{Token, Writer};
 use explain_run::{Assignment, Object, ObjectState, Step};
 use guest_code::program::Instruction;
 use serde::Serializer;
 
 impl<S: Serializer> Writer<'_, S> {
     /// Writes the list `steps`: an object for each step that ran, in order.
-    pub fn put_steps(&mut self) -> Written<S> {
+    pub fn put_steps(&mut self) {
         let facts = self.facts;
-        let mut objects = self.convert_alloc_error(ObjectStates::initial(facts))?;
-        self.begin_list("steps")?;
+        let Some(mut objects) = self.allocated(ObjectStates::initial(facts)) else {
+            return;
+        };
+        self.begin_list("steps");
         for (at, step) in facts.explanation.steps().iter().enumerate() {
-            self.convert_alloc_error(objects.apply_step(facts, at, step))?;
-            self.put_step(at, step, &objects)?;
+            self.allocated(objects.apply_step(facts, at, step));
+            self.put_step(at, step, &objects);
         }
-        self.out.end_seq()
+        self.token(Token::ListEnd);
     }
 
     // Writes the step at place `at` as a JSON object; `objects` are the guest's objects after it.
-    fn put_step(&mut self, at: usize, step: &Step, objects: &ObjectStates<'_>) -> Written<S> {
+    fn put_step(&mut self, at: usize, step: &Step, objects: &ObjectStates<'_>) {
         let facts = self.facts;
         let thread = step.line.thread;
         let statement = facts.statement(thread, step.instruction);
         let held = step.held.iter().map(|m| Object::Mutex(*m));
         let held = held.map(|mutex| facts.object_name(mutex));
-        self.out.begin_map(None)?;
-        self.put("act", act_word(step.line.act))?;
-        self.put_states_after(step, objects)?;
+        self.token(Token::Object);
+        self.put("act", act_word(step.line.act));
+        self.put_states_after(step, objects);
         self.put(
             "cause",
             facts.causes.step_marks().get(at).copied() == Some(true),
-        )?;
-        self.put_extent(statement)?;
-        self.put_allocated("held", held.collect::<Vec<&str>>(facts.alloc))?;
-        self.put_line_number(statement)?;
-        self.put_some("mutex", facts.wait_mutex_name(step))?;
-        self.put("name", facts.thread_name(thread))?;
-        self.put_object_state("new", step.new)?;
-        self.put_next_statement(thread, step.next)?;
-        self.put("object", facts.object_name(step.object))?;
-        self.put_object_state("old", step.old)?;
-        self.put("preempting", step.line.preempting)?;
-        self.put_assignments(thread, step.assignments.as_slice())?;
-        self.put("step", at)?;
-        self.put("stop", step.line.stop.map(stop_reason_word))?;
-        self.put("thread", thread)?;
-        self.put_turns(statement)?;
-        self.put_allocated("woken", facts.thread_names(step.woken.as_slice()))?;
-        self.out.end_map()
+        );
+        self.put_extent(statement);
+        self.put_allocated("held", held.collect::<Vec<&str>>(facts.alloc));
+        self.put_line_number(statement);
+        self.put_some("mutex", facts.wait_mutex_name(step));
+        self.put("name", facts.thread_name(thread));
+        self.put_object_state("new", step.new);
+        self.put_next_statement(thread, step.next);
+        self.put("object", facts.object_name(step.object));
+        self.put_object_state("old", step.old);
+        self.put("preempting", step.line.preempting);
+        self.put_assignments(thread, step.assignments.as_slice());
+        self.put("step", at);
+        self.put("stop", step.line.stop.map(stop_reason_word));
+        self.put("thread", thread);
+        self.put_turns(statement);
+        self.put_allocated("woken", facts.thread_names(step.woken.as_slice()));
+        self.token(Token::ObjectEnd);
     }
 
     // Writes the object `after`: the states after a step of its object and of a `wait`'s mutex, by
     // rising name. No two objects share a name: each is in only one of the four maps of `objects`.
-    fn put_states_after(&mut self, step: &Step, objects: &ObjectStates<'_>) -> Written<S> {
+    fn put_states_after(&mut self, step: &Step, objects: &ObjectStates<'_>) {
         let touched = Some(self.facts.object_name(step.object));
         let beside = self.facts.wait_mutex_name(step);
         let names = [touched.min(beside), touched.max(beside)];
-        self.begin_object("after")?;
+        self.begin_object("after");
         for name in names.into_iter().flatten() {
             let owner = objects.mutexes.get(name).copied();
-            self.put_some(name, objects.conditions.get(name))?;
-            self.put_some(name, owner.map(|owner| owner.map(|owner| owner.holder)))?;
-            self.put_some(name, objects.semaphores.get(name))?;
-            self.put_some(name, objects.variables.get(name))?;
+            self.put_some(name, objects.conditions.get(name));
+            self.put_some(name, owner.map(|owner| owner.map(|owner| owner.holder)));
+            self.put_some(name, objects.semaphores.get(name));
+            self.put_some(name, objects.variables.get(name));
         }
-        self.out.end_map()
+        self.token(Token::ObjectEnd);
     }
 
     // Writes a key and an object's state as its value: a variable's value, the owner of a mutex or
     // null, how many threads wait for a condition, or a semaphore's count.
-    fn put_object_state(&mut self, key: &str, state: ObjectState) -> Written<S> {
+    fn put_object_state(&mut self, key: &str, state: ObjectState) {
         let facts = self.facts;
         match state {
             ObjectState::Value(value) => self.put(key, value),
@@ -87,35 +89,35 @@ impl<S: Serializer> Writer<'_, S> {
 
     /// Writes `next`: the statement that a thread has come to, with the mutex or the semaphore that
     /// a `lock` or an `acquire` there `wants`, or null at the end of the thread's code.
-    pub fn put_next_statement(&mut self, thread: u8, instruction: usize) -> Written<S> {
+    pub fn put_next_statement(&mut self, thread: u8, instruction: usize) {
         let facts = self.facts;
-        self.out.key("next")?;
+        self.key("next");
         let wanted = match facts.source.instruction(thread, instruction) {
             Some(Instruction::Lock(m)) => Some(Object::Mutex(m)),
             Some(Instruction::Acquire(k)) => Some(Object::Semaphore(k)),
             Some(_) => None,
-            None => return self.out.unit(),
+            None => return self.token(Token::Null),
         };
         let statement = facts.statement(thread, instruction);
-        self.out.begin_map(None)?;
-        self.put_place(statement)?;
-        self.put_statement_text(statement)?;
-        self.put_some("wants", wanted.map(|object| facts.object_name(object)))?;
-        self.out.end_map()
+        self.token(Token::Object);
+        self.put_place(statement);
+        self.put_text("text", statement);
+        self.put_some("wants", wanted.map(|object| facts.object_name(object)));
+        self.token(Token::ObjectEnd);
     }
 
     /// Writes the list `sets`: the locals that a thread set, in the order in which it did, each
     /// with its value and the statement that set it.
-    pub fn put_assignments(&mut self, thread: u8, assignments: &[Assignment]) -> Written<S> {
+    pub fn put_assignments(&mut self, thread: u8, assignments: &[Assignment]) {
         let facts = self.facts;
-        self.begin_list("sets")?;
+        self.begin_list("sets");
         for assignment in assignments {
-            self.out.begin_map(None)?;
-            self.put_place(facts.statement(thread, assignment.instruction))?;
-            self.put("local", facts.local_name(thread, assignment.local))?;
-            self.put("value", assignment.value)?;
-            self.out.end_map()?;
+            self.token(Token::Object);
+            self.put_place(facts.statement(thread, assignment.instruction));
+            self.put("local", facts.local_name(thread, assignment.local));
+            self.put("value", assignment.value);
+            self.token(Token::ObjectEnd);
         }
-        self.out.end_seq()
+        self.token(Token::ListEnd);
     }
 }

@@ -3,7 +3,7 @@
 use crate::facts::Facts;
 use crate::objects::ByName;
 use crate::words::{thread_status_word, wait_reason_word};
-use crate::writer::{Writer, Written};
+use crate::writer::{Token, Writer};
 use explain_run::{Object, Reason, Statement, ThreadState};
 use explain_waits::{Fate, Wait};
 use serde::Serializer;
@@ -79,76 +79,76 @@ impl Facts<'_> {
 
 impl<S: Serializer> Writer<'_, S> {
     /// Writes the list `threads`: an object for each thread as it is after the last step that ran.
-    pub fn put_threads(&mut self) -> Written<S> {
+    pub fn put_threads(&mut self) {
         let facts = self.facts;
-        self.begin_list("threads")?;
+        self.begin_list("threads");
         for (state, thread) in facts.explanation.thread_states().iter().zip(0u8..) {
-            self.out.begin_map(None)?;
-            self.put_place(facts.statement(thread, state.instruction))?;
-            self.put_allocated("locals", facts.local_values(thread, state))?;
-            self.put("name", facts.thread_name(thread))?;
-            self.put("status", thread_status_word(state))?;
-            self.put_wait(facts.waits.get(thread))?;
-            self.out.end_map()?;
+            self.token(Token::Object);
+            self.put_place(facts.statement(thread, state.instruction));
+            self.put_allocated("locals", facts.local_values(thread, state));
+            self.put("name", facts.thread_name(thread));
+            self.put("status", thread_status_word(state));
+            self.put_wait(facts.waits.get(thread));
+            self.token(Token::ObjectEnd);
         }
-        self.out.end_seq()
+        self.token(Token::ListEnd);
     }
 
     // Writes `waits`: what a thread waits for, of a mutex who owns it and since which step, of a
     // condition what the thread would look at if it were woken, the threads that it waits for, and
     // the statements that could end the wait. Null where `wait` is `None`.
-    fn put_wait(&mut self, wait: Option<&Wait>) -> Written<S> {
+    fn put_wait(&mut self, wait: Option<&Wait>) {
         let facts = self.facts;
-        self.out.key("waits")?;
+        self.key("waits");
         let Some(wait) = wait else {
-            return self.out.unit();
+            return self.token(Token::Null);
         };
         let mutex = wait.reason.mutex();
         let holder = mutex.and_then(|m| facts.explanation.holder(m));
-        self.out.begin_map(None)?;
-        self.put("act", wait_reason_word(wait.reason))?;
+        self.token(Token::Object);
+        self.put("act", wait_reason_word(wait.reason));
         let look = match wait.reason {
             Reason::Signal(_) => Some(&wait.look),
             _ => None,
         };
-        self.put_some("again", look.map(|look| look.sleeps))?;
-        self.put_some("holder", holder.map(|h| facts.thread_name(h.thread)))?;
+        self.put_some("again", look.map(|look| look.sleeps));
+        self.put_some("holder", holder.map(|h| facts.thread_name(h.thread)));
         if let Some(look) = look {
-            self.put_allocated("loads", facts.variable_names(look.variables.as_slice()))?;
+            self.put_allocated("loads", facts.variable_names(look.variables.as_slice()));
         }
-        self.put("object", facts.object_name(wait.reason.object()))?;
-        self.put_allocated("on", facts.thread_names_in(wait.on))?;
-        self.put_some("since", holder.map(|holder| holder.since))?;
-        self.put_unblocking_statements(wait)?;
-        self.out.end_map()
+        self.put("object", facts.object_name(wait.reason.object()));
+        self.put_allocated("on", facts.thread_names_in(wait.on));
+        self.put_some("since", holder.map(|holder| holder.since));
+        self.put_unblocking_statements(wait);
+        self.token(Token::ObjectEnd);
     }
 
     // Writes the list `statements`: those that could end a wait, each with its thread, its place,
     // whether the thread comes to it, and the steps in which it was passed by, null for
     // one before the first step, and that carried it out.
-    fn put_unblocking_statements(&mut self, wait: &Wait) -> Written<S> {
+    fn put_unblocking_statements(&mut self, wait: &Wait) {
         let facts = self.facts;
-        let statements = self.convert_alloc_error(facts.unblocking_statements(wait))?;
-        self.begin_list("statements")?;
-        for found in statements.values() {
-            self.out.begin_map(None)?;
+        let statements = self.allocated(facts.unblocking_statements(wait));
+        self.begin_list("statements");
+        for found in statements.iter().flat_map(BTreeMap::values) {
+            self.token(Token::Object);
             match found.perhaps && !found.ahead {
-                true => self.put("ahead", "perhaps")?,
-                false => self.put("ahead", found.ahead)?,
+                true => self.put("ahead", "perhaps"),
+                false => self.put("ahead", found.ahead),
             }
-            self.put_place(found.statement)?;
-            self.put("name", facts.thread_name(found.statement.thread))?;
-            self.put_passing_steps(&found.passed)?;
-            self.put("taken", &found.taken)?;
-            self.put_statement_text(found.statement)?;
-            self.out.end_map()?;
+            self.put_place(found.statement);
+            self.put("name", facts.thread_name(found.statement.thread));
+            self.put_passing_steps(&found.passed);
+            self.put("taken", &found.taken);
+            self.put_text("text", found.statement);
+            self.token(Token::ObjectEnd);
         }
-        self.out.end_seq()
+        self.token(Token::ListEnd);
     }
 
     // Writes the list `passed`: of these jumps, which are places in the run, the steps to which
     // they belong.
-    fn put_passing_steps(&mut self, jumps: &BTreeSet<usize>) -> Written<S> {
+    fn put_passing_steps(&mut self, jumps: &BTreeSet<usize>) {
         let events = self.facts.causes.events();
         let steps = jumps
             .iter()

@@ -6,15 +6,25 @@ use crate::words::{kind_word, stop_reason_word};
 use explain_run::{Object, name_text};
 use serde::{Described, Serialize, Serializer};
 use std::alloc::AllocError;
-
-/// Nothing where all was written, or the error of the serializer.
-pub type Written<S> = Result<(), <S as Serializer>::Error>;
+use std::fmt::Display;
 
 /// A writer of facts by a serializer. Each method `put..` writes a key and its value, or several,
-/// into the object that was begun last.
-pub struct Writer<'w, S> {
+/// into the object that was begun last. After the first error nothing more is written, and
+/// `written` has it.
+pub struct Writer<'w, S: Serializer> {
     pub facts: &'w Facts<'w>,
-    pub out: &'w mut S,
+    out: &'w mut S,
+    written: Result<(), S::Error>,
+}
+
+/// Where an object or a list begins or ends, or a null.
+#[derive(Clone, Copy)]
+pub enum Token {
+    Object,
+    ObjectEnd,
+    List,
+    ListEnd,
+    Null,
 }
 
 impl Described for Facts<'_> {}
@@ -22,113 +32,151 @@ impl Described for Facts<'_> {}
 impl Serialize for Facts<'_> {
     /// Writes the whole explanation that the facts are of, as an object.
     fn serialize<S: Serializer>(&self, out: &mut S) -> Result<(), S::Error> {
-        let mut writer = Writer { facts: self, out };
-        let done = writer.put_explanation();
-        let Writer { facts: _, out: _ } = writer;
-        done
+        let mut writer = Writer {
+            facts: self,
+            out,
+            written: Ok(()),
+        };
+        writer.put_explanation();
+        let Writer {
+            facts: _,
+            out: _,
+            written,
+        } = writer;
+        written
     }
 }
 
 impl<S: Serializer> Writer<'_, S> {
+    /// Writes where an object or a list begins or ends, or a null.
+    pub fn token(&mut self, token: Token) {
+        if self.written.is_ok() {
+            self.written = match token {
+                Token::Object => self.out.begin_map(None),
+                Token::ObjectEnd => self.out.end_map(),
+                Token::List => self.out.begin_seq(None),
+                Token::ListEnd => self.out.end_seq(),
+                Token::Null => self.out.unit(),
+            };
+        }
+    }
+
+    /// Writes a key, whose value is written next.
+    pub fn key(&mut self, key: &str) {
+        if self.written.is_ok() {
+            self.written = self.out.key(key);
+        }
+    }
+
     /// Writes a key and its value.
-    pub fn put<T: Serialize + Drop>(&mut self, key: &str, value: T) -> Written<S> {
-        self.out.key(key)?;
-        value.serialize(self.out)
+    pub fn put<T: Serialize + Drop>(&mut self, key: &str, value: T) {
+        self.key(key);
+        if self.written.is_ok() {
+            self.written = value.serialize(self.out);
+        }
     }
 
     /// Writes a key and its value, or neither where there is no value.
-    pub fn put_some<T: Serialize + Drop>(&mut self, key: &str, value: Option<T>) -> Written<S> {
-        match value {
-            Some(value) => self.put(key, value),
-            None => Ok(()),
+    pub fn put_some<T: Serialize + Drop>(&mut self, key: &str, value: Option<T>) {
+        if let Some(value) = value {
+            self.put(key, value);
         }
     }
 
     /// Writes a key and a value that took memory to make; fails where memory ran out for it.
-    pub fn put_allocated<T: Serialize + Drop>(
-        &mut self,
-        key: &str,
-        value: Result<T, AllocError>,
-    ) -> Written<S> {
-        let value = self.convert_alloc_error(value)?;
-        self.put(key, value)
+    pub fn put_allocated<T: Serialize + Drop>(&mut self, key: &str, value: Result<T, AllocError>) {
+        if let Some(value) = self.allocated(value) {
+            self.put(key, value);
+        }
+    }
+
+    /// Writes a key and a value that is told as text.
+    pub fn put_text<T: Display + Drop>(&mut self, key: &str, value: T) {
+        self.key(key);
+        if self.written.is_ok() {
+            self.written = self.out.collect_str(&value);
+        }
     }
 
     /// Writes a key, and begins a list as its value.
-    pub fn begin_list(&mut self, key: &str) -> Written<S> {
-        self.out.key(key)?;
-        self.out.begin_seq(None)
+    pub fn begin_list(&mut self, key: &str) {
+        self.key(key);
+        self.token(Token::List);
     }
 
     /// Writes a key, and begins an object as its value.
-    pub fn begin_object(&mut self, key: &str) -> Written<S> {
-        self.out.key(key)?;
-        self.out.begin_map(None)
+    pub fn begin_object(&mut self, key: &str) {
+        self.key(key);
+        self.token(Token::Object);
     }
 
-    /// Keeps a value that took memory to make; turns the error that memory ran out for it into one
-    /// of the serializer.
-    pub fn convert_alloc_error<T>(&self, value: Result<T, AllocError>) -> Result<T, S::Error> {
-        value.map_err(|_| self.out.custom("out of memory"))
+    /// A value that took memory to make; where memory ran out for it, that is an error of writing.
+    pub fn allocated<T: Drop>(&mut self, value: Result<T, AllocError>) -> Option<T> {
+        if value.is_err() && self.written.is_ok() {
+            self.written = Err(self.out.custom("out of memory"));
+        }
+        value.ok()
     }
 
     // Writes the whole explanation as an object. Its `marks`, `source` and `why` are for a page:
     // they are left out where there is no `why`.
-    fn put_explanation(&mut self) -> Written<S> {
+    fn put_explanation(&mut self) {
         let facts = self.facts;
-        self.out.begin_map(None)?;
-        self.put_allocated("circles", facts.circle_thread_names())?;
-        self.put_allocated("end", ObjectStates::at_end(facts))?;
-        self.put_failures()?;
-        self.put("file", name_text(facts.source.file))?;
-        self.put("kind", facts.explanation.kind().map(kind_word))?;
+        self.token(Token::Object);
+        self.put_allocated("circles", facts.circle_thread_names());
+        self.put_allocated("end", ObjectStates::at_end(facts));
+        self.put_failures();
+        self.put("file", name_text(facts.source.file));
+        self.put("kind", facts.explanation.kind().map(kind_word));
         if facts.why.is_some() {
-            let marks = self.convert_alloc_error(facts.file_runs())?;
-            self.put_some("marks", marks)?;
+            let marks = self.allocated(facts.file_runs());
+            self.put_some("marks", marks.flatten());
         }
-        self.put_initial_state()?;
-        self.put("preemptions", facts.explanation.preemptions())?;
-        self.put("refused", facts.explanation.refused())?;
-        self.put_allocated("schedule", facts.printed_schedule())?;
-        self.put("search", &facts.search)?;
-        self.put_some("source", facts.why.map(|_| name_text(facts.source.text)))?;
-        self.put_steps()?;
-        self.put_tests()?;
-        self.put_threads()?;
-        self.put_some("why", facts.why)?;
-        self.out.end_map()
+        self.put_initial_state();
+        self.put("preemptions", facts.explanation.preemptions());
+        self.put("refused", facts.explanation.refused());
+        self.put_allocated("schedule", facts.printed_schedule());
+        self.put("search", &facts.search);
+        self.put_some("source", facts.why.map(|_| name_text(facts.source.text)));
+        self.put_steps();
+        self.put_tests();
+        self.put_threads();
+        self.put_some("why", facts.why);
+        self.token(Token::ObjectEnd);
     }
 
     // Writes the object `opening`: the names of the conditions and mutexes, which nobody waits for
     // or owns at first, those of the variables as `declared`, in order, the initial counts of
     // semaphores and values of variables, and the threads.
-    fn put_initial_state(&mut self) -> Written<S> {
+    fn put_initial_state(&mut self) {
         let facts = self.facts;
-        let objects = self.convert_alloc_error(ObjectStates::initial(facts))?;
         let variables = facts.source.program.variables();
-        self.begin_object("opening")?;
-        self.put_allocated("conditions", facts.condition_names())?;
-        self.put_allocated("declared", facts.object_names(variables, Object::Variable))?;
-        self.put_allocated("mutexes", facts.mutex_names())?;
-        self.put("semaphores", objects.semaphores)?;
-        self.put_initial_threads()?;
-        self.put("variables", objects.variables)?;
-        self.out.end_map()
+        let Some(objects) = self.allocated(ObjectStates::initial(facts)) else {
+            return;
+        };
+        self.begin_object("opening");
+        self.put_allocated("conditions", facts.condition_names());
+        self.put_allocated("declared", facts.object_names(variables, Object::Variable));
+        self.put_allocated("mutexes", facts.mutex_names());
+        self.put("semaphores", objects.semaphores);
+        self.put_initial_threads();
+        self.put("variables", objects.variables);
+        self.token(Token::ObjectEnd);
     }
 
     // Writes the list `threads` of the initial state: of each thread the statement that it has come
     // to, the locals that it set before that, and why it stopped there, if it did.
-    fn put_initial_threads(&mut self) -> Written<S> {
+    fn put_initial_threads(&mut self) {
         let facts = self.facts;
-        self.begin_list("threads")?;
+        self.begin_list("threads");
         for (start, thread) in facts.explanation.starts().iter().zip(0u8..) {
-            self.out.begin_map(None)?;
-            self.put("name", facts.thread_name(thread))?;
-            self.put_next_statement(thread, start.next)?;
-            self.put_assignments(thread, start.assignments.as_slice())?;
-            self.put("stop", start.stop.map(stop_reason_word))?;
-            self.out.end_map()?;
+            self.token(Token::Object);
+            self.put("name", facts.thread_name(thread));
+            self.put_next_statement(thread, start.next);
+            self.put_assignments(thread, start.assignments.as_slice());
+            self.put("stop", start.stop.map(stop_reason_word));
+            self.token(Token::ObjectEnd);
         }
-        self.out.end_seq()
+        self.token(Token::ListEnd);
     }
 }
