@@ -1057,13 +1057,23 @@ class Sentences:
                 yield ["Who could %s %s" % (verb, why[1]), *self.looks(why), *self.fates(why)]
 
     def looks(self, why):
-        """Whether each that waits so would go on if it were woken."""
-        for thread, other in self.waiting:
-            again, loaded = thread.look(self.run.values) if other == why and why[0] == "signal" else (False, [])
+        """Whether each that waits so would go on if it were woken, and by which test it came to wait."""
+        for thread in [t for t, other in self.waiting if other == why]:
+            again, loaded = thread.look(self.run.values) if why[0] == "signal" else (False, [])
             if again or loaded:
                 values = ", ".join(self.run.present(thread, name) for name in dict.fromkeys(loaded))
                 yield "  %s would %s if it were woken now%s" % (
                     thread.name, "wait again" if again else "go on", values and ": " + values)
+            yield from self.test_of_wait(thread) if why[0] in ("signal", "acquire") else ()
+
+    def test_of_wait(self, thread):
+        """The last test by which a thread came to where it waits, and where the values of that came from."""
+        here = {"thread": thread.number, "place": thread.place}
+        tests = [e for e in self.events if e["word"] == "if" and self.is_decided(here, e)]
+        self.said = []
+        for test in tests[-1:]:
+            yield "  %s waits%s" % (thread.name, self.decided(test))
+            yield from self.values(test["at"], test["statement"].parts[0], 6, 3, True)
 
     def fates(self, why):
         """Of each thread what came of its statements that could end such a wait; at last that nobody is left, if so."""
@@ -1468,7 +1478,7 @@ PHRASES = (
     ", which is its limit", " hit (", " missed (", " itself set ", " itself made it ", "nobody had written before", "from the start",
     " was interrupted", ", turn 2 of", "Why nobody can go on", "Blocked meanwhile", " wait for one another", " waits for itself",
     "waits for a signal on", " took the last one ", ", which ended and owns", ", which stopped and owns", ": retake ",
-    "Who could signal", "Who could release", "Who could unlock", "would wait again", "would go on", " is still ", ", and was ",
+    "Who could signal", "Who could release", "Who could unlock", "would wait again", "would go on", " waits since `if ", " is still ", ", and was ",
     " has yet to come to", " may come to", ", but is blocked at", ", but stopped at", "passed by 2 times", "last time at the start",
     ", by `leave` in", " did in step", " did 2 times", ", when nobody waited", ", and woke ", "Nobody is left", "Nobody: no other",
     "can't be taken", "there is no thread", "has ended.", "has stopped.", "Nobody can go on.", "The run was over", "Could go on: ")

@@ -1,9 +1,10 @@
-//! The tests that led to where a thread stopped in an error.
+//! The tests that led to where a thread stopped in an error, or to where it waits.
 
 use crate::origins::ValueLayout;
 use crate::text::TextWriter;
 use explain_cause::{Event, is_decided};
 use explain_lines::{Page, Written};
+use explain_waits::Wait;
 use guest_code::program::Instruction;
 use std::collections::BTreeSet;
 
@@ -13,7 +14,8 @@ const TEST_INDENT: usize = 4;
 /// The column at which what doesn't fit into a line goes on in the next one.
 const INDENT: usize = 8;
 
-const VALUE_LAYOUT: ValueLayout = ValueLayout {
+/// How the values of a test are shown.
+pub const VALUE_LAYOUT: ValueLayout = ValueLayout {
     indent: 6,
     most_values: 3,
     is_later_change_told: true,
@@ -39,10 +41,30 @@ impl TextWriter<'_> {
                     self.put_outcome(page, (at, test), end, &read)?;
                     self.put_test(page, test)?;
                     page.end_line(TEST_INDENT, INDENT)?;
-                    self.put_new_values(page, (at, expression), VALUE_LAYOUT, values)?;
+                    self.put_values(page, (at, expression), VALUE_LAYOUT, values)?;
                 }
             }
             read.extend(test.variable_read())?;
+        }
+        Ok(())
+    }
+
+    /// Writes the last test by which a thread came to wait for a condition or a semaphore, if there
+    /// is one, and where its values came from.
+    pub fn put_test_of_wait(&self, page: &mut Page, wait: &Wait) -> Written {
+        let (program, at) = (self.source.program, self.instruction_at_end(wait.thread));
+        let events = self.causes.events().iter().enumerate().rev();
+        let mut own = events.filter(|(_, event)| event.thread == wait.thread && is_test(event));
+        let last = own.find(|(_, test)| is_decided(program, wait.thread, test.instruction, at));
+        if let Some((place, test)) = last
+            && let Instruction::SkipIfZero(expression, _) = test.statement
+            && wait.reason.mutex().is_none()
+        {
+            write!(page, "  {} waits", self.thread_name(wait.thread))?;
+            self.put_test(page, test)?;
+            page.end_line(0, VALUE_LAYOUT.indent)?;
+            let told = &mut Vec::new(self.alloc);
+            self.put_values(page, (place, expression), VALUE_LAYOUT, told)?;
         }
         Ok(())
     }

@@ -111,7 +111,7 @@ impl TextWriter<'_> {
         told: &mut Vec<usize>,
     ) -> Written {
         match statement {
-            Instruction::Assert(e) => return self.put_new_values(page, (at, e), VALUE_LAYOUT, told),
+            Instruction::Assert(e) => return self.put_values(page, (at, e), VALUE_LAYOUT, told),
             Instruction::Unlock(m) | Instruction::Wait { mutex: m, .. } => {
                 self.put_owner(page, at, m)?;
             }

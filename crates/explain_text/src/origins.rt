@@ -28,22 +28,10 @@ struct PendingLocal {
 }
 
 impl TextWriter<'_> {
-    /// Writes the locals of the expression that the event at `at` evaluates, each with its value
-    /// and where that came from; under a local that a `set` computed, the locals of that `set`.
+    /// Writes the locals of the expression of `test`, which the event at its place evaluates, each
+    /// with its value and where that came from; under a local that a `set` computed, those of that
+    /// `set`. Leaves out what the events at the places `told` set, and adds the places of the others.
     pub fn put_values(
-        &self,
-        page: &mut Page,
-        at: usize,
-        expression: Expression,
-        layout: ValueLayout,
-    ) -> Written {
-        let mut told = Vec::new(self.alloc);
-        self.put_new_values(page, (at, expression), layout, &mut told)
-    }
-
-    /// Writes what [`TextWriter::put_values`] does for `test`, a place and its expression, but not
-    /// the locals that the events at the places `told` set; adds the places that set the others.
-    pub fn put_new_values(
         &self,
         page: &mut Page,
         test: (usize, Expression),

@@ -1,6 +1,6 @@
 //! Which threads could end the waits for a condition or a semaphore, and why none of them does.
 
-use crate::origins::ValueLayout;
+use crate::decisions::VALUE_LAYOUT;
 use crate::text::{TextWriter, push_entry};
 use explain_cause::Event;
 use explain_lines::{Page, Written};
@@ -14,16 +14,9 @@ use std::collections::{BTreeMap, BTreeSet};
 /// The column at which what doesn't fit into a line goes on in the next one.
 const INDENT: usize = 6;
 
-/// How the values of the test are shown that led a thread past a statement.
-const VALUE_LAYOUT: ValueLayout = ValueLayout {
-    indent: INDENT,
-    most_values: 3,
-    is_later_change_told: true,
-};
-
 impl TextWriter<'_> {
-    /// Writes for each object that threads wait for, a mutex only if its owner ended, what they would
-    /// do if they were woken, who could end the waits, and what came of the statements that could.
+    /// Writes for each object that threads wait for, a mutex only if its owner ended, by which tests
+    /// they came to wait, what they would do if they were woken, and who could end the waits.
     pub fn put_unblocking(&self, page: &mut Page) -> Written {
         let waits = self.waits.all();
         for (at, wait) in waits.iter().enumerate() {
@@ -41,6 +34,7 @@ impl TextWriter<'_> {
             for waiter in waits.iter().skip(at) {
                 if waiter.reason == wait.reason {
                     self.put_look(page, waiter)?;
+                    self.put_test_of_wait(page, waiter)?;
                 }
             }
             self.put_unblocking_threads(page, wait)?;
@@ -211,7 +205,8 @@ impl TextWriter<'_> {
                 page.write(",")?;
                 self.put_test(page, &event)?;
                 page.end_line(0, INDENT)?;
-                return self.put_values(page, at, expression, VALUE_LAYOUT);
+                let told = &mut Vec::new(self.alloc);
+                return self.put_values(page, (at, expression), VALUE_LAYOUT, told);
             }
             let jump = self.event_site(&event);
             write!(page, ", by `{}` in {}", jump.statement, jump.line)?;
