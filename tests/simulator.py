@@ -1197,6 +1197,9 @@ SHAPES = [
     # A loop that was left in one turn of the loop round it, and ran out in the next.
     ("var x = 1; thread A { repeat 2 { repeat 2 { load r x; if r { leave; } } } assert r; } thread B { store x 0; }",
      "0,1,0x2"),
+    # A test that led to a wait, beside the failure of another thread.
+    ("var x; var y; mutex m; cond c; thread A { lock m; load r x; if r == 0 { wait c m; } unlock m; } "
+     "thread B { load s y; assert s == 1; }", "0x3,1"),
     # A mutex whose owner ended, having passed its unlock by; and one whose owner stopped before it.
     ("mutex m; var x; thread A { lock m; load r x; if r { unlock m; } } thread B { lock m; unlock m; }", "0x2"),
     ("mutex m; thread A { lock m; assert 0; unlock m; } thread B { lock m; unlock m; }", "0"),
