@@ -11,3 +11,5 @@ pub mod EndKinds
 pub mod Sleepers
 pub mod Runs
 pub mod TouchBits
+pub mod Unused
+pub mod EqualThreads

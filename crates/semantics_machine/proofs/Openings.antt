@@ -14,13 +14,13 @@ use Rattle.semantics.specs.{Mask.{has, no_threads}, declared.mask.Mask.Mask}
 use Rattle.semantics.specs.declared.state.Status.TheVariants.{Stopped}
 use Rattle.semantics.specs.declared.state.{Stop.TheVariants.Assert as FailedAssert, Thread.Thread}
 use Rattle.semantics.proofs.{Masks.empty_has, StepsKeepStates.start_is_of}
-use Rattle.semantics_machine.specs.Refinement.{HasObjects, HasThreadAt, IsControl, Shows, AreQueues, thread_or_none, locals_at, queued}
+use Rattle.semantics_machine.specs.Refinement.{HasObjects, HasThreadAt, HaveSameCode, IsControl, Shows, AreQueues, thread_or_none, locals_at, queued}
 use Rattle.semantics_machine.specs.{Touches.AreTouches, declared.control.Control.Control}
 use Rattle.semantics_machine.specs.declared.{control.TheConstants.FREE, machine.Machine.Machine}
 use Rattle.semantics_machine.specs.declared.machine.Shape.{Shape}
 use Rattle.semantics_machine.specs.inner.{Opening.{IsOpenedTo, IsOpening}, Parts.Lands}
 use Rattle.semantics_machine.proofs.{Landings.with_thread, Lists.{by_place, same_all}}
-use Rattle.semantics_machine.proofs.Values.{chunk_inside}
+use Rattle.semantics_machine.proofs.{Unused.run_unused, Values.chunk_inside}
 
 -- the opening counts
 
@@ -176,11 +176,14 @@ run_length (SkipIfZero e m ∷ is) zero th =
 run_length (Skip m ∷ is) zero th = run_length is m (advance th 1)
 run_length (i ∷ is) zero th = refl
 
+opened : (p : Program) (t : ℕ) → t < length p.threads
+    → thread_at (start p) t ≡ local_run (code_of p t) 0 initial_thread
+opened p t l = get_or-map (λ th. local_run th.code 0 initial_thread) p.threads t no_thread
+    missing_thread l
+
 pub opening_room : (p : Program) (t : ℕ) → t < length p.threads
     → length (thread_at (start p) t).locals ≡ LOCALS
-opening_room p t l =
-    ap (λ (x : Thread). length x.locals) (get_or-map (λ th. local_run th.code 0 initial_thread)
-    p.threads t no_thread missing_thread l)
+opening_room p t l = ap (λ (x : Thread). length x.locals) (opened p t l)
     ∙ (run_length (code_of p t) 0 initial_thread ∙ length-replicate LOCALS (pos 0))
 
 -- the opening with one thread more
@@ -204,6 +207,7 @@ opening_more p s k m n ys there h lands is more own same = record {
       omega (arith, e, g, more, h.size, f)));
   wide = subst (λ x. All (λ th. All (LocalsBelow x) th.code) p.threads) (sym w) h.wide;
   touches = subst (λ (x : Shape). AreTouches p x.touches) (sym same) h.touches;
+  same_code = subst (λ (x : Shape). HaveSameCode p x.same_code) (sym same) h.same_code;
 }
   where
     f : n.shape.fixed ≡ m.shape.fixed
@@ -256,11 +260,15 @@ shows_start p k m fine full few h = record {
     variables = h.variables;
     queues = no_queues p m.control m.shape.fixed m.values.items h.control.objects;
     locals = λ t l. h.locals t (omega (arith, l, many, full));
+    unused = λ t l. ap (λ (x : Thread). drop m.shape.width x.locals)
+        (opened p t (omega (arith, l, many))) ∙ run_unused m.shape.width (code_of p t) 0
+        initial_thread (h.wide t no_thread (omega (arith, l, many)));
     size = h.size ∙ ap (λ n. m.shape.fixed + length (start p).queues + n * m.shape.width)
         (let e : k ≡ length (start p).threads = omega (arith, full, few, many) in e);
     wide = h.wide;
   };
   touches = h.touches;
+  same_code = h.same_code;
 }
   where
     many : length (start p).threads ≡ length p.threads

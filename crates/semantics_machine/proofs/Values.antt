@@ -2,7 +2,7 @@
 use Rattle.std.specs.Prelude.{All}
 use Rattle.std.proofs.Common.{◌≡◌, ◌≢◌, ℕ, ℤ, suc, ◌+◌, ◌-◌, ◌*◌, ◌<◌, ◌≤◌, Bool, true, ◌⊎◌, List, ◌++◌, pos, get_or, length, take, drop, refl, ap, ◌∙◌, sym, subst, arith, inl, inr}
 use Rattle.std.proofs.Math.{Nat.mul-le-mul_right, Seq.drop-append_seam}
-use Rattle.std.proofs.lemmas.Bool.{cases_order}
+use Rattle.std.proofs.lemmas.Bool.{cases_eq, cases_order}
 use Rattle.std.proofs.lemmas.List.{drop-take, length-append, length-drop, length-take, length-take-le, take-take, take-append-le, get_or-take, get_or_append_left}
 use Rattle.std.proofs.lemmas.Slice.{take-put_mid_below, drop-put_mid, between-put_mid}
 use borrow.Rule.Slice.PartMut.{put_mid}
@@ -13,6 +13,7 @@ use Rattle.semantics_machine.specs.Refinement.{IsState, AreQueues, queued, local
 use Rattle.semantics_machine.specs.declared.{control.Control.Control, machine.Run.Run}
 use Rattle.semantics_machine.specs.inner.Runs.{run_to, IsRunTo}
 use Rattle.semantics_machine.specs.inner.Steps.{AreShared, HasShared, IsReadyIn}
+use Rattle.semantics_machine.proofs.Unused.{steps_unused}
 
 -- thread t's part is in the list
 pub chunk_inside : (t n w L : ℕ) → t < n → L ≡ n * w → t * w + w ≤ L
@@ -179,15 +180,19 @@ module _ (p : Program) (f w : ℕ) (c : Control) (values : List ℤ) (s : Snapsh
     queues_after : length after.queues ≡ length s.queues
     queues_after = st.of.queues ∙ sym shows.of.queues
 
-    locals_after : (u : ℕ) → u < length s.threads → (u ≡ t) ⊎ ((u < t) ⊎ (t < u))
-        → locals_at w new u ≡ take w (thread_at after u).locals
-    locals_after u h (inl e) = rw e (wrote.chunk
-        ∙ (st.own ∙ ap (λ n. take n (thread_at after t).locals) long))
-    locals_after u h (inr side) = other_chunk w old new mine t u wrote ne
-        ∙ (shows.locals u h ∙ ap (take w) (sym (st.others u ne)))
-      where
-        ne : u ≢ t
-        ne = elim side [ inl l ↦ omega (arith, l) | inr l ↦ omega (arith, l) ]
+    locals_after : (u : ℕ) → u < length s.threads → (u ≡ t) ⊎ (u ≢ t)
+        → (locals_at w new u ≡ take w (thread_at after u).locals)
+        × (drop w (thread_at after u).locals ≡ drop w (thread_at s u).locals)
+    locals_after u h (inl e) = rw e (
+      wrote.chunk ∙ (st.own ∙ ap (λ n. take n (thread_at after t).locals) long),
+      steps_unused w p t (shows.wide t no_thread (omega (arith, there, shows.of.threads))) s r.steps
+          st.enabled,
+    )
+    locals_after u h (inr ne) = (
+      other_chunk w old new mine t u wrote ne
+          ∙ (shows.locals u h ∙ ap (take w) (sym (st.others u ne))),
+      ap (drop w) (st.others u ne),
+    )
 
     fixed_after : f ≡ length after.vars
     fixed_after = shows.fixed_are ∙ sym (st.of.variables ∙ sym shows.of.variables)
@@ -213,7 +218,10 @@ module _ (p : Program) (f w : ℕ) (c : Control) (values : List ℤ) (s : Snapsh
       queues = shared_queues d.lengths cells after.vars new after.queues f st.shared
           fixed_after;
       locals = λ u h. ap (λ x. locals_at w x u) rest
-          ∙ locals_after u (omega (arith, h, many_after)) (cases_order u t);
+          ∙ (locals_after u (omega (arith, h, many_after)) (cases_eq u t)).0;
+      unused = λ u h.
+          let l : u < length s.threads = omega (arith, h, many_after) in
+          (locals_after u l (cases_eq u t)).1 ∙ shows.unused u l;
       size = size_after ∙ (shows.size
           ∙ (λ i. f + sym queues_after i + sym many_after i * w));
       wide = shows.wide;

@@ -1,9 +1,9 @@
 -- What a machine shows: a state of a program.
-use Rattle.std.specs.Prelude.{◌≡◌, ℕ, zero, suc, ◌+◌, ◌*◌, ◌^◌, ◌/◌, ◌%◌, ◌<◌, ℤ, pos, Bool, true, false, not, nat_eq, List, [], ◌∷◌, length, take, drop, slice_get, slice_index_or, All, Option, Some, None, if◌then◌else◌}
+use Rattle.std.specs.Prelude.{◌≡◌, ◌↔◌, ℕ, zero, suc, ◌+◌, ◌*◌, ◌^◌, ◌/◌, ◌%◌, ◌<◌, ℤ, pos, Bool, true, false, not, nat_eq, List, [], ◌∷◌, length, take, drop, slice_get, slice_index_or, All, Option, Some, None, if◌then◌else◌}
 use Rattle.std.specs.Int.{cast_unsigned, w64}
 use Rattle.guest_code.specs.Program.{Program, code_of, LocalsBelow}
 use Rattle.semantics.specs.Ends.{is_stopped, is_ended}
-use Rattle.semantics.specs.Machine.{Snapshot, thread_at, can_do, action_at}
+use Rattle.semantics.specs.Machine.{Snapshot, thread_at, can_do, action_at, initial_thread}
 use Rattle.semantics.specs.{Mask.{has, no_threads}, Reachable.IsOf, declared.mask.Mask.Mask}
 use Rattle.semantics.specs.declared.state.Action.{Action}
 use Rattle.semantics.specs.declared.state.Action.TheVariants.{OnVariable, OnMutex, Wait as Waits, OnCondition, OnSemaphore}
@@ -120,7 +120,8 @@ abbrev pub locals_at : ℕ → List ℤ → ℕ → List ℤ
 locals_at width locals t = take width (drop (t * width) locals)
 
 -- the values are those of the state: first those of the variables, then the queues, and then for
--- each thread its first locals, as many as any thread's code speaks of
+-- each thread its first locals, as many as any thread's code speaks of; the others are as they
+-- began
 pub record IsState (p : Program) (fixed width : ℕ) (c : Control) (values : List ℤ) (s : Snapshot)
     : Type 0 where
   pub of : IsOf p s
@@ -131,14 +132,27 @@ pub record IsState (p : Program) (fixed width : ℕ) (c : Control) (values : Lis
   pub locals : (t : ℕ) → t < length s.threads
       → locals_at width (drop (fixed + length s.queues) values) t
       ≡ take width (thread_at s t).locals
+  pub unused : (t : ℕ) → t < length s.threads
+      → drop width (thread_at s t).locals ≡ drop width initial_thread.locals
   pub size : length values ≡ fixed + length s.queues + length s.threads * width
   pub wide : All (λ th. All (LocalsBelow width) th.code) p.threads
+
+-- these are the threads of lower numbers that have the code of thread t
+abbrev pub HasSameCode : Program → ℕ → Mask → Type 0
+HasSameCode p t lower = (u : ℕ)
+    → (has lower u ≡ true) ↔ ((u < t) × (code_of p u ≡ code_of p t))
+
+-- and so for each thread
+abbrev pub HaveSameCode : Program → List Mask → Type 0
+HaveSameCode p sets = (t : ℕ) → t < length p.threads
+    → HasSameCode p t (slice_index_or sets t no_threads)
 
 -- and the shape is the program's
 pub record IsShown (p : Program) (shape : Shape) (c : Control) (values : List ℤ) (s : Snapshot)
     : Type 0 where
   pub state : IsState p shape.fixed shape.width c values s
   pub touches : AreTouches p shape.touches
+  pub same_code : HaveSameCode p shape.same_code
 
 -- the machine shows the state
 abbrev pub Shows : Program → Machine → Snapshot → Type 0

@@ -5,3 +5,4 @@ pub mod Parts
 pub mod Steps
 pub mod Opening
 pub mod Runs
+pub mod Alike

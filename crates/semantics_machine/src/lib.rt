@@ -11,15 +11,18 @@
 //! - [`Machine::start`] shows the initial state. It alone takes memory.
 //! - [`Machine::run`] shows the state after a thread's step, or further ones while the same threads
 //!   stay enabled, or any.
-//! - [`Machine::enabled`], [`Machine::kind`], [`Machine::variables`] and
-//!   [`Machine::sleep_set_after`] answer what the definitions say of the state.
+//! - [`Machine::enabled`], [`Machine::kind`], [`Machine::variables`],
+//!   [`Machine::sleep_set_after`] and [`Machine::hidden`] answer what the definitions say of the
+//!   state.
 //! - [`Machine::restore`] shows a state again of which a [`Control`] and its values were copied.
 //!
 //! `Shows` needs no belief: the first call gives it, each other keeps it. What has to be believed
-//! is what the clauses name: `start`, `step`, `is_enabled`, `final_kind` and `next_sleep_set`.
+//! is what the clauses name: `start`, `step`, `is_enabled`, `final_kind`, `next_sleep_set` and
+//! `is_hidden`.
 #![tactic(auto)]
 
 mod control;
+mod equal;
 mod machine;
 mod touch;
 

@@ -12,6 +12,7 @@ ghost use Rattle.semantics_machine.specs.declared.machine.Machine.{Machine};
 ghost use Rattle.semantics_machine.specs.inner.Opening.{IsOpening};
 
 use crate::control::Control;
+use crate::equal::same_code;
 use crate::touch::{Touch, Touches};
 use guest_code::limits::{LOCALS, OBJECTS, THREADS, VARIABLES};
 use guest_code::program::Program;
@@ -45,6 +46,8 @@ pub struct Shape {
     pub(crate) width: usize,
     /// What each step touches.
     pub(crate) touches: Touches,
+    /// For each thread the threads of lower numbers that have the same code.
+    pub(crate) same_code: [Mask; THREADS],
 }
 
 /// How far a run of a thread may go.
@@ -129,6 +132,7 @@ impl Machine {
                 fixed: program.variables() as usize,
                 width: most_locals(program),
                 touches,
+                same_code: same_code(program),
             },
         };
         for t in 0..program.threads() {
