@@ -5,10 +5,12 @@ Usage: tests/gate.py
 
 Each line of a part is passed on as it comes, behind the minute of the gate at which it came, but for
 a part's closing line `N passed, M failed`, which stays alone, and for lines that say of one function
-or type that it is proved, which are left out. Before the last closing line there is a line on when each
-crate was proved, one on the processor time, and one on the whole. The first part that fails ends the gate,
-with its status.
+or type that it is proved, which are left out. What needs no proof begins beside the proofs; its lines come
+in its turn. Before the last closing line there is a line on when each crate was proved, one on the
+processor time, and one on the whole. The first part that fails ends the gate, with its status.
 """
+import atexit
+import os
 import re
 import resource
 import shutil
@@ -49,6 +51,14 @@ COUNTED = {
 }
 
 
+def begin(words):
+    """Begins what a part runs, in a process group of its own, so that all of it ends with the gate."""
+    begun = subprocess.Popen(words, cwd=ROOT, stdin=subprocess.DEVNULL, stdout=subprocess.PIPE,
+                             stderr=subprocess.STDOUT, text=True, errors="replace", start_new_session=True)
+    atexit.register(lambda: begun.poll() is None and os.killpg(begun.pid, signal.SIGTERM))
+    return begun
+
+
 class Gate:
     def __init__(self):
         self.begun = time.monotonic()
@@ -71,21 +81,20 @@ class Gate:
 
     def part(self, name, words):
         """Runs a part and answers its closing line; where it fails, the gate ends."""
+        return self.rest(name, begin(words))
+
+    def rest(self, name, begun):
+        """The same of a part that has begun."""
         self.say("== " + name)
-        started = subprocess.Popen(words, cwd=ROOT, stdin=subprocess.DEVNULL, stdout=subprocess.PIPE,
-                                   stderr=subprocess.STDOUT, text=True, errors="replace")
         closing = None
-        try:
-            for line in started.stdout:
-                line = line.rstrip("\n")
-                if CLOSING.match(line):
-                    closing = line
-                elif not LEFT_OUT.match(line):
-                    self.count(line)
-                    self.say(line)
-            status = started.wait()
-        finally:
-            started.terminate()
+        for line in begun.stdout:
+            line = line.rstrip("\n")
+            if CLOSING.match(line):
+                closing = line
+            elif not LEFT_OUT.match(line):
+                self.count(line)
+                self.say(line)
+        status = begun.wait()
         if status:
             self.say("FAILED: " + name)
             print(closing or "0 passed, 1 failed", flush=True)
@@ -110,18 +119,19 @@ class Gate:
 
 
 def main():
-    # So that the part that runs is ended, too.
+    # So that the parts that run are ended, too.
     signal.signal(signal.SIGTERM, lambda number, _: sys.exit(128 + number))
     gate = Gate()
     gate.part("the list of wrong bodies", [sys.executable, "tests/edits.py"])
     gate.part("the budget of lines", [sys.executable, "tests/budget.py"])
+    # What people run who prove nothing: by one build, which costs the least.
+    unproved = begin(["env", "BUILDS=1", "make", "quick-shown"])
     print(gate.part("proofs, wrong bodies and tests", ["rt", "ci"]), flush=True)
     (ROOT / "build").mkdir(exist_ok=True)
     shutil.copyfile(ROOT / "crates/ctxbound/out/ctxbound", ROOT / PROGRAM)
     (ROOT / PROGRAM).chmod(0o755)
     print(gate.part("shown commands", [sys.executable, "tests/docs.py", PROGRAM]), flush=True)
-    # What people run who prove nothing: by one build, which costs the least.
-    print(gate.part("shown commands, nothing proved", ["env", "BUILDS=1", "make", "quick-shown"]), flush=True)
+    print(gate.rest("shown commands, nothing proved", unproved), flush=True)
     for name, words in TRIED.items():
         closing = gate.part(name, words)
         if closing:
