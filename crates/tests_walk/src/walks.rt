@@ -1,7 +1,5 @@
 //! Walks of items after a prefix and up to a quota, and items that differ.
 
-ghost use Rattle.std.specs.Prelude.{◌≤◌};
-
 use guest_code::lowering::lower;
 use guest_code::program::Program;
 use guest_syntax::parse;
@@ -10,6 +8,7 @@ use std::process::Abort;
 use std::sync::Arc;
 use std::test::*;
 use walk::found::Found;
+use walk::walked::Walked;
 use walk::walker::walk;
 use walk::{Item, Mode};
 use walk_prefixes::Prefixes;
@@ -24,19 +23,25 @@ pub fn program_of(alloc: Global, text: &str) -> Result<Arc<Program>, Fail> {
     Ok(Arc::new(alloc, lower(alloc, &tree)?)?)
 }
 
-// What a walk of a text's program under a prefix finds, with this quota.
-fn found_under(
+/// The walk of a text's program under a prefix, up to `quota` schedules, or one where that is 0.
+pub fn walk_under(
     alloc: Global,
     text: &str,
     prefix: &[u8],
     mode: Mode,
     quota: u32,
-) -> Result<Found, Fail>
-    requires { 1 ≤ quota }
-{
+) -> Result<Walked, Fail> {
     let item = Item::at(alloc, program_of(alloc, text)?, prefix)?;
-    let (_, found) = walk(alloc, &item, mode, quota)?.into_parts();
-    Ok(found)
+    Ok(walk(alloc, &item, mode, quota.max(1))?)
+}
+
+// How many schedules walks try of the items that a walk left.
+fn count_left(alloc: Global, rest: &[Item], mode: Mode) -> Result<u64, Fail> {
+    let mut left = 0_u64;
+    for item in rest {
+        left = left.saturating_add(walk(alloc, item, mode, 256)?.part().tried());
+    }
+    Ok(left)
 }
 
 // Appends each prefix of a list to a line, the last one first, and pops it.
@@ -50,10 +55,10 @@ fn push_all(line: &mut String, prefixes: &mut Prefixes) -> Result<(), Fail> {
     Ok(())
 }
 
-// What a walk found, in one line: how many schedules were tried, whether some are beyond the bound,
-// the end views, and the prefixes that the bound defers, the last one first.
-fn found_line(alloc: Global, mut found: Found) -> Result<String, Fail> {
-    let mut line = format!(in alloc; "{} {}", found.part.tried(), found.part.beyond())?;
+// What a walk in a mode found, in one line: see `WALKS`.
+fn found_line(alloc: Global, mut found: Found, mode: Mode) -> Result<String, Fail> {
+    let left = count_left(alloc, found.rest.as_slice(), mode)?;
+    let mut line = format!(in alloc; "{} {left} {}", found.part.tried(), found.part.beyond())?;
     for end in found.part.ends() {
         write!(line, " {:?} {:?}", end.kind(), end.vars())?;
     }
@@ -61,62 +66,40 @@ fn found_line(alloc: Global, mut found: Found) -> Result<String, Fail> {
     Ok(line)
 }
 
-/// Prefixes of `COUNTERS`, a bound, and what the walk of the schedules after the prefix finds. Of
-/// the three that thread 0 begins 1, 2 and 3 are within bounds 0, 1 and 2. What one row puts off,
-/// another one walks at the next bound; a prefix past its bound is beyond it, and tries nothing.
-const BOUNDED: [(&[u8], u32, &str); 9] = [
-    (&[0], 0, "1 true Done [2]; Some([0, 1])"),
-    (&[0], 1, "2 true Done [1] Done [2]; Some([0, 1, 0])"),
-    (&[0], 2, "3 false Done [1] Done [2]"),
-    (&[0, 1], 0, "0 true"),
-    (&[], 0, "2 true Done [2]; Some([1, 0]); Some([0, 1])"),
-    (&[0, 1], 1, "1 true Done [1]; Some([0, 1, 0])"),
-    (&[1, 0], 1, "1 true Done [1]; Some([1, 0, 1])"),
-    (&[0, 1, 0], 2, "1 false Done [1]"),
-    (&[1, 0, 1], 2, "1 false Done [1]"),
+/// A prefix of `COUNTERS`, a bound, a quota, and what the walk of the schedules after the prefix
+/// finds: how many are tried, how many further walks try of what it leaves, whether some are beyond
+/// the bound, the end views, and the prefixes that the bound defers, the last one first. Of the
+/// three schedules that thread 0 begins 1, 2 and 3 are within bounds 0, 1 and 2. What one row puts
+/// off, another one walks at the next bound; a prefix past its bound is beyond it, and tries
+/// nothing. The last two are cut short by a quota, or not.
+const WALKS: [(&[u8], u32, u32, &str); 11] = [
+    (&[0], 0, 256, "1 0 true Done [2]; Some([0, 1])"),
+    (&[0], 1, 256, "2 0 true Done [1] Done [2]; Some([0, 1, 0])"),
+    (&[0], 2, 256, "3 0 false Done [1] Done [2]"),
+    (&[0, 1], 0, 256, "0 0 true"),
+    (&[], 0, 256, "2 0 true Done [2]; Some([1, 0]); Some([0, 1])"),
+    (&[0, 1], 1, 256, "1 0 true Done [1]; Some([0, 1, 0])"),
+    (&[1, 0], 1, 256, "1 0 true Done [1]; Some([1, 0, 1])"),
+    (&[0, 1, 0], 2, 256, "1 0 false Done [1]"),
+    (&[1, 0, 1], 2, 256, "1 0 false Done [1]"),
+    (&[], 1, 1, "1 3 false Done [2]"),
+    (
+        &[],
+        1,
+        5,
+        "4 0 true Done [1] Done [2]; Some([1, 0, 1]); Some([0, 1, 0])",
+    ),
 ];
 
-// Checks that the walk of `COUNTERS` under a prefix finds within a bound what `want` says.
-fn check_walk(
-    rt: &(impl Abort + Alloc<A = Global>),
-    prefix: &[u8],
-    bound: u32,
-    want: &str,
-) -> Result<(), Fail> {
-    let found = found_under(rt.alloc(), COUNTERS, prefix, Mode::Bounded(bound), 256)?;
-    let line = found_line(rt.alloc(), found)?;
-    assert_eq!(rt; line.as_str(), want, "{prefix:?}, {bound}");
-    Ok(())
-}
-
-// Each walk of `BOUNDED` finds, and puts off, what its row says.
+// Each walk of `WALKS` finds, leaves and puts off what its row says.
 #[test]
 fn what_walks_find(rt: HostRuntime) -> Result<(), Fail> {
-    for (prefix, bound, want) in &BOUNDED {
-        check_walk(&rt, prefix, *bound, want)?;
+    for (prefix, bound, quota, want) in &WALKS {
+        let mode = Mode::Bounded(*bound);
+        let walked = walk_under(rt.alloc(), COUNTERS, prefix, mode, *quota)?;
+        let line = found_line(rt.alloc(), walked.into_parts().1, mode)?;
+        assert_eq!(rt; line.as_str(), *want, "{prefix:?}, {bound}");
     }
-    Ok(())
-}
-
-// How many schedules of `COUNTERS` with at most one preemption a walk of its root tries, and how
-// many it leaves, all of which further walks try.
-fn tried_and_left(alloc: Global, quota: u32) -> Result<(u64, u64), Fail>
-    requires { 1 ≤ quota }
-{
-    let mode = Mode::Bounded(1);
-    let found = found_under(alloc, COUNTERS, &[], mode, quota)?;
-    let mut left = 0_u64;
-    for item in &found.rest {
-        left = left.saturating_add(walk(alloc, item, mode, 256)?.part().tried());
-    }
-    Ok((found.part.tried(), left))
-}
-
-// Of the four schedules one is tried with quota 1, and three are left; with quota 5 all are tried.
-#[test]
-fn quotas_cut_a_walk(rt: HostRuntime) -> Result<(), Fail> {
-    assert_eq!(rt; tried_and_left(rt.alloc(), 1)?, (1, 3));
-    assert_eq!(rt; tried_and_left(rt.alloc(), 5)?, (4, 0));
     Ok(())
 }
 
@@ -150,7 +133,7 @@ const READERS: &str = "var x; thread A { load r x; } thread B { load r x; }";
 // and whether one of these equals the item that `Item::at` makes of its prefix, at which no thread
 // sleeps.
 fn count_left_and_find_awake(alloc: Global) -> Result<(usize, bool), Fail> {
-    let found = found_under(alloc, READERS, &[], Mode::Reduced, 1)?;
+    let (_, found) = walk_under(alloc, READERS, &[], Mode::Reduced, 1)?.into_parts();
     let mut some = false;
     for item in &found.rest {
         some |= item.equals(&Item::at(alloc, program_of(alloc, READERS)?, item.prefix())?);
