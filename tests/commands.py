@@ -47,6 +47,10 @@ CROSSED = ("mutex m; mutex n;\nthread A { lock m; lock n; unlock n; unlock m; }\
 # If B goes first, A fails with no preemption. In the first bad schedule of all B comes between A's
 # steps. There are seven threads more, so that there are 9! schedules without a preemption, and the
 # first of those that is bad comes after 8! of them: after those of the first round of a search.
+# Of many schedules few are bad, and none with less than two preemptions.
+PUTTING_OFF = ("var x;\n" + "".join("thread %s { %s}\n" % (name, "load r x; " * 4) for name in "PQRST")
+               + "thread U { load a x; store x 1; load b x; store x 2; load c x; }\n"
+               "thread V { load a x; load b x; set s a * 10; set s s + b; assert s != 12; }\n")
 CROWD = ("var x; var y; " + "".join("var %s; " % name for name in "abcdefg")
          + "\nthread A { store y 1; load r x; assert r == 0; }\nthread B { store x 1; }\n"
          + "".join("thread %s { store %s 1; }\n" % (name, name.lower()) for name in "CDEFG")
@@ -67,6 +71,7 @@ FILES = {
     "clean.guest": "# expect: clean\n" + APART,
     "not_bad.guest": "# expect: bad\n" + APART,
     "eights.guest": EIGHTS,
+    "putting_off.guest": PUTTING_OFF,
     "failing_eights.guest": FAILING_EIGHTS,
     "late.guest": LATE,
     "crowd.guest": CROWD,
@@ -543,6 +548,17 @@ class Commands(Tester):
         version = json.loads((ROOT / "share/vscode/package.json").read_text(encoding="utf-8"))["version"]
         self.answers(["--version"], "", "ctxbound %s\n" % version, 2)
 
+    def peak(self, *words):
+        """The most memory that the program holds as it answers, in kilobytes."""
+        begun = subprocess.Popen([self.binary, *words], cwd=self.folder, stdout=subprocess.DEVNULL)
+        return os.wait4(begun.pid, 0)[2].ru_maxrss
+
+    def memory(self):
+        """A quick search that puts much off holds no more than the full one, though it finds a bad schedule."""
+        words = ["explore", "--bound", "3", "putting_off.guest"]
+        full, quick = self.peak(*words), self.peak(*words, "--quick")
+        self.compare(words, (full > 60000, quick <= full), (True, True))
+
     def limits(self):
         """Texts, schedules and searches at their limits and past them."""
         for text, schedule, wanted in replays_at_limits():
@@ -826,7 +842,7 @@ class Commands(Tester):
             self.compare(["first"] + words, asked(words), ("", usage, 2))
 
     def test(self):
-        for test in (self.words, self.limits, self.suites, self.suites_cut_short, self.expectations, self.rows_as_they_come,
+        for test in (self.words, self.memory, self.limits, self.suites, self.suites_cut_short, self.expectations, self.rows_as_they_come,
                      self.verified, self.marked, self.examples, self.traces, self.progress, self.long_progress, self.explanations,
                      self.checks, self.standard_input, self.full_device):
             test()
