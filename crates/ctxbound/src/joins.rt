@@ -6,9 +6,9 @@ ghost use Rattle.runner_joining.specs.Parts.{JoinErrorMeans};
 ghost use Rattle.ctxbound.specs.Joins.{IsJoined, error_status};
 
 use ctxbound_answers::{CommandFault, Fault, JoinRequest, Printed, REFUSED, read_bytes};
-use ctxbound_verify::program_of;
 use guest_code::program::Program;
 use replay::schedule_text;
+use runner::program_of;
 use runner_joining::{JoinError, join};
 use runner_parts::{Part, PartError, first_of_another, parts_from};
 use runner_report::Search;

@@ -5,7 +5,7 @@ ghost use Rattle.ctxbound_answers.specs.Answer.{FaultMeans};
 ghost use Rattle.ctxbound.specs.Prefixes.{listing_mode, IsListingOf};
 
 use ctxbound_answers::{Fault, PrefixesRequest, Printed};
-use ctxbound_verify::program_of;
+use runner::program_of;
 use std::alloc::Global;
 use walk_cover::{prefix_lines, prefixes};
 use walk_items::limits::BOUND;

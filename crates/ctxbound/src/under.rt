@@ -9,10 +9,9 @@ ghost use Rattle.replay.specs.Spelling.{Spells};
 ghost use Rattle.runner_report.specs.Texts.{IsProgramOf};
 
 use ctxbound_answers::{Exploration, Fault, Host, Printed, ProgressGate, UnderRequest};
-use ctxbound_verify::program_of;
 use guest_code::program::Program;
 use replay::schedule_from;
-use runner::explore_under;
+use runner::{explore_under, program_of};
 use runner_joining::last_mode;
 use runner_parts::{GuestDigest, Part, part_line};
 use runner_report::Level;

@@ -4,7 +4,7 @@ use check_advice::{Checked, Diagnostic, check};
 use check_hints::pieces::pieces;
 use ctxbound_answers::{Fault, Host, Printed, VerifyRequest};
 use ctxbound_explained::run_out_text;
-use ctxbound_verify::{BadSchedule, Correctness, Preemptions, verify_text};
+use ctxbound_suite::{BadSchedule, Correctness, Preemptions, verify_text};
 use explain_lines::{Count, Marks};
 use guest_syntax::pieces::Piece;
 use replay::schedule_text;

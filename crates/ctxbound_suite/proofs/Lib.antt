@@ -1,1 +1,3 @@
+pub mod Shows
+pub mod Answers
 pub mod OneOrTwo

@@ -4,8 +4,8 @@ use Rattle.guest_code.specs.Program.{Program}
 use Rattle.runner_report.specs.declared.options.Search.TheVariants.{UpTo, Unbounded}
 use Rattle.runner_report.specs.Texts.{IsProgramOf}
 use Rattle.ctxbound_answers.specs.declared.limits.Limits.{Limits}
-use Rattle.ctxbound_verify.specs.declared.found.Found.{Found}
-use Rattle.ctxbound_verify.specs.Shown.{options_of, clean_below, IsFound}
+use Rattle.ctxbound_suite.specs.declared.found.Found.{Found}
+use Rattle.ctxbound_suite.specs.Shown.{options_of, clean_below, IsFound}
 use Rattle.ctxbound_suite.specs.Suites.{is_enough, second_bound, told_search, IsSearched}
 
 pub one_search : (text : List ℕ) (p : Program) (l : Limits) (f : Found)

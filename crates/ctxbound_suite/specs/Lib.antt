@@ -1,2 +1,4 @@
+pub mod Answers
+pub mod Shown
 pub mod Statuses
 pub mod Suites

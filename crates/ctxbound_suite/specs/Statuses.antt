@@ -7,7 +7,7 @@ use Rattle.runner_report.specs.declared.error.ExploreError.TheVariants.{Syntax, 
 use Rattle.runner_report.specs.declared.report.Verdict.{Verdict}
 use Rattle.runner_report.specs.declared.report.Verdict.TheVariants as verdict
 use Rattle.walk_summary.specs.Summaries.{is_failed, is_stuck}
-use Rattle.ctxbound_verify.specs.declared.found.BadSchedule.{BadSchedule}
+use Rattle.ctxbound_suite.specs.declared.found.BadSchedule.{BadSchedule}
 use Rattle.ctxbound_suite.specs.declared.entry.{Entry.Entry, Outcome.Outcome}
 use Rattle.ctxbound_suite.specs.declared.entry.Outcome.TheVariants.{Searched, Refused, Unclear, Unread}
 use Rattle.ctxbound_suite.specs.declared.expectation.ExpectedVerdict.{ExpectedVerdict}

@@ -8,8 +8,8 @@ use Rattle.runner_report.specs.declared.error.ExploreError.{ExploreError}
 use Rattle.runner_report.specs.declared.options.Search.TheVariants.{UpTo, Unbounded}
 use Rattle.runner_report.specs.declared.report.Verdict.{Verdict}
 use Rattle.ctxbound_answers.specs.declared.limits.Limits.{Limits}
-use Rattle.ctxbound_verify.specs.Shown.{options_of, is_cut_short, clean_below, IsFound}
-use Rattle.ctxbound_verify.specs.declared.found.{BadSchedule.BadSchedule, Found.Found}
+use Rattle.ctxbound_suite.specs.Shown.{options_of, is_cut_short, clean_below, IsFound}
+use Rattle.ctxbound_suite.specs.declared.found.{BadSchedule.BadSchedule, Found.Found}
 use Rattle.ctxbound_suite.specs.declared.entry.Outcome.{Outcome}
 use Rattle.ctxbound_suite.specs.declared.entry.Outcome.TheVariants.{Searched as Ended, Refused, Unclear, Unread}
 use Rattle.ctxbound_suite.specs.declared.searches.SearchResult.{SearchResult}

@@ -5,9 +5,9 @@ ghost use Rattle.ctxbound_suite.specs.Suites.{OutcomeMeans};
 ghost use Rattle.ctxbound_suite.specs.Statuses.{bad_status, fewest_status, one_unless, status_of, unfound_status};
 
 use crate::expectation::{Expectation, ExpectedVerdict, expectation_lookalike_line};
+use crate::found::BadSchedule;
 use crate::searches::{SearchResult, search};
 use ctxbound_answers::{Host, Limits};
-use ctxbound_verify::BadSchedule;
 use runner::{ExploreError, Verdict};
 use semantics::view::Kind;
 

@@ -2,8 +2,8 @@
 
 use crate::entry::{Entry, Outcome};
 use crate::expectation::ExpectedVerdict;
+use crate::found::Found;
 use crate::searches::SearchResult;
-use ctxbound_verify::Found;
 use explain_lines::Marks;
 use guest_code::error::CheckError;
 use guest_syntax::{Pos, SyntaxError};

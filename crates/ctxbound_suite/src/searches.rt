@@ -3,9 +3,9 @@
 ghost use Rattle.std.specs.Prelude.{◌≡◌};
 ghost use Rattle.ctxbound_suite.specs.Suites.{SearchMeans, is_enough, second_bound, told_search};
 
+use crate::found::{BadSchedule, Found, run_search};
 use ctxbound_answers::{Host, Limits};
-use ctxbound_verify::{BadSchedule, Found, program_of, run_search};
-use runner::{BOUND, ExploreError, Search, Verdict};
+use runner::{BOUND, ExploreError, Search, Verdict, program_of};
 
 /// What the searches of a text show.
 #[derive(Drop)]

@@ -6,8 +6,8 @@ ghost use Rattle.walk_items.specs.declared.limits.TheConstants.{BOUND};
 ghost use Rattle.runner_report.specs.{Promises.IsSearch, Texts.ExploreErrorMeans};
 ghost use Rattle.runner_report.specs.declared.error.ExploreError.TheVariants.{OutOfMemory};
 ghost use Rattle.runner_report.specs.declared.options.Search.TheVariants.{Unbounded};
-ghost use Rattle.ctxbound_verify.specs.Answers.{AnswerMeans, IsAnswerOfText, answer_of, status_of, stop_of};
-ghost use Rattle.ctxbound_verify.specs.Shown.{options_of, IsFound, IsLeft};
+ghost use Rattle.ctxbound_suite.specs.Answers.{AnswerMeans, IsAnswerOfText, answer_of, status_of, stop_of};
+ghost use Rattle.ctxbound_suite.specs.Shown.{options_of, IsFound, IsLeft};
 
 use crate::found::{BadSchedule, Found, run_search};
 use ctxbound_answers::{Host, Limits};

@@ -5,7 +5,7 @@ ghost use Rattle.std.specs.Arc.{arc_value};
 ghost use Rattle.runner_report.specs.{Promises.IsSearch, ReportText.named_schedule};
 ghost use Rattle.runner_report.specs.Reports.{IsBadSchedule};
 ghost use Rattle.runner_report.specs.declared.error.ExploreError.TheVariants.{OutOfMemory};
-ghost use Rattle.ctxbound_verify.specs.Shown.{options_of, clean_below, is_right, is_clean, IsNamedBad, IsFound};
+ghost use Rattle.ctxbound_suite.specs.Shown.{options_of, clean_below, is_right, is_clean, IsNamedBad, IsFound};
 
 use ctxbound_answers::{Exploration, Host, Limits};
 use guest_code::program::Program;

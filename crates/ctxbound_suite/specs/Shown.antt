@@ -9,7 +9,7 @@ use Rattle.runner_report.specs.declared.{limits.TheConstants.QUOTA, options.Opti
 use Rattle.runner_report.specs.declared.options.Search.{Search, TheVariants.{UpTo, Unbounded}}
 use Rattle.runner_report.specs.declared.report.{Report.Report, Verdict.Verdict}
 use Rattle.runner_report.specs.declared.report.Verdict.TheVariants.{Clean, Bad, Incomplete}
-use Rattle.ctxbound_verify.specs.declared.found.{BadSchedule.BadSchedule, Found.Found}
+use Rattle.ctxbound_suite.specs.declared.found.{BadSchedule.BadSchedule, Found.Found}
 
 -- a search as far as this that is cut short at the limit
 abbrev pub options_of : Search → ℕ → Options

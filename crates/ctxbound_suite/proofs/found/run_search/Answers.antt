@@ -1,8 +1,8 @@
 use Rattle.std.proofs.Common.{sym, subst}
 use Rattle.guest_code.specs.Program.{Program}
 use Rattle.runner_report.specs.Reports.{IsBadSchedule}
-use Rattle.ctxbound_verify.{specs.Shown.options_of, proofs.Shows.named_is_bad}
-use Rattle.ctxbound_verify.proofs.found.run_search.Goals as goal
+use Rattle.ctxbound_suite.{specs.Shown.options_of, proofs.Shows.named_is_bad}
+use Rattle.ctxbound_suite.proofs.found.run_search.Goals as goal
 
 pub named_bad_schedule-requires : goal.named_bad_schedule-requires
 named_bad_schedule-requires g c w e =

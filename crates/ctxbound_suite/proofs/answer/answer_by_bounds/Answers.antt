@@ -1,9 +1,9 @@
 use Rattle.std.proofs.Common.{rules, ◌≡◌, ◌∙◌, ap, sym, subst, false, None}
 use Rattle.std.specs.Arc.{arc_value}
 use Rattle.runner_report.specs.Reports.{NoBadBelow}
-use Rattle.ctxbound_verify.specs.{Answers.{AnswerMeans, answer_of, stop_of}, Shown.is_clean}
-use Rattle.ctxbound_verify.proofs.Answers.{stopped_at, gone_through}
-use Rattle.ctxbound_verify.proofs.answer.answer_by_bounds.Goals as goal
+use Rattle.ctxbound_suite.specs.{Answers.{AnswerMeans, answer_of, stop_of}, Shown.is_clean}
+use Rattle.ctxbound_suite.proofs.Answers.{stopped_at, gone_through}
+use Rattle.ctxbound_suite.proofs.answer.answer_by_bounds.Goals as goal
 
 pub returns-then-not-is_clean-clause-answer : goal.returns-then-not-is_clean-clause-answer
 returns-then-not-is_clean-clause-answer g c =

@@ -22,9 +22,9 @@ use Rattle.runner_report.specs.declared.options.{Options.Options, Search.Search}
 use Rattle.runner_report.specs.declared.options.Search.TheVariants.{UpTo, Unbounded}
 use Rattle.runner_report.specs.declared.report.{Report.Report, Verdict.Verdict}
 use Rattle.runner_report.specs.declared.report.Verdict.TheVariants.{Clean, Bad, Incomplete}
-use Rattle.ctxbound_verify.specs.Shown.{clear_of, is_clean, is_right, IsRight, IsRightUpTo}
-use Rattle.ctxbound_verify.specs.Shown.{IsNamedBad, IsFound}
-use Rattle.ctxbound_verify.specs.declared.found.BadSchedule.{BadSchedule}
+use Rattle.ctxbound_suite.specs.Shown.{clear_of, is_clean, is_right, IsRight, IsRightUpTo}
+use Rattle.ctxbound_suite.specs.Shown.{IsNamedBad, IsFound}
+use Rattle.ctxbound_suite.specs.declared.found.BadSchedule.{BadSchedule}
 
 -- a schedule of the root in a mode is a complete one
 of_root : (p : Program) (mode : Mode) (w : List ℕ) → In (schedules_of mode (root_of p)) w

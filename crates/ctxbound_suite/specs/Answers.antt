@@ -4,10 +4,10 @@ use Rattle.guest_code.specs.Program.{Program}
 use Rattle.runner_report.specs.{Reports.NoBadBelow, Texts.IsProgramOf}
 use Rattle.runner_report.specs.declared.options.Search.TheVariants.{UpTo, Unbounded}
 use Rattle.ctxbound_answers.specs.declared.limits.Limits.{Limits}
-use Rattle.ctxbound_verify.specs.Shown.{options_of, IsRight, IsBadOf, WasCut, Names}
-use Rattle.ctxbound_verify.specs.declared.answer.Correctness.{Correctness}
-use Rattle.ctxbound_verify.specs.declared.answer.Correctness.TheVariants.{Right, Bad, Undecided}
-use Rattle.ctxbound_verify.specs.declared.found.BadSchedule.{BadSchedule}
+use Rattle.ctxbound_suite.specs.Shown.{options_of, IsRight, IsBadOf, WasCut, Names}
+use Rattle.ctxbound_suite.specs.declared.answer.Correctness.{Correctness}
+use Rattle.ctxbound_suite.specs.declared.answer.Correctness.TheVariants.{Right, Bad, Undecided}
+use Rattle.ctxbound_suite.specs.declared.found.BadSchedule.{BadSchedule}
 
 -- the bounds below this one are gone through: up to the last, or to the preemptions of a bad
 -- schedule that is known

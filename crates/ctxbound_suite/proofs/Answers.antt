@@ -9,11 +9,11 @@ use Rattle.runner_report.specs.declared.options.Options.{Options}
 use Rattle.runner_report.specs.declared.options.Search.TheVariants.{UpTo, Unbounded}
 use Rattle.runner_report.specs.declared.report.Verdict.{Verdict}
 use Rattle.runner_report.specs.declared.report.Verdict.TheVariants.{Clean, Bad, Incomplete}
-use Rattle.ctxbound_verify.specs.Answers.{AnswerMeans, answer_of, stop_of}
-use Rattle.ctxbound_verify.specs.Shown.{options_of, is_clean, is_cut_short, IsBadOf, IsNamedBad, IsFound, WasCut, Names, IsLeft}
-use Rattle.ctxbound_verify.specs.declared.found.{BadSchedule.BadSchedule, Found.Found}
-use Rattle.ctxbound_verify.proofs.Shows.{named_has_few}
-use Rattle.ctxbound_verify.specs.declared.answer.Correctness.TheVariants as answers
+use Rattle.ctxbound_suite.specs.Answers.{AnswerMeans, answer_of, stop_of}
+use Rattle.ctxbound_suite.specs.Shown.{options_of, is_clean, is_cut_short, IsBadOf, IsNamedBad, IsFound, WasCut, Names, IsLeft}
+use Rattle.ctxbound_suite.specs.declared.found.{BadSchedule.BadSchedule, Found.Found}
+use Rattle.ctxbound_suite.proofs.Shows.{named_has_few}
+use Rattle.ctxbound_suite.specs.declared.answer.Correctness.TheVariants as answers
 
 -- none has fewer preemptions than this many, so none has fewer than fewer
 fewer : (p : Program) (m n : ℕ) → m ≤ n → NoBadBelow p n → NoBadBelow p m

@@ -1,2 +1,0 @@
-pub mod Shows
-pub mod Answers
