@@ -60,9 +60,12 @@ window.addEventListener("load", () => {
       [...d.querySelectorAll("tr")].map((tr) => [...tr.children].map((td) => td.textContent))]));
     beside.push(all("#source .line").flatMap((line, i) => [...line.querySelectorAll(".badge")].map((b, j) =>
       [b.textContent, i + 1, line.querySelectorAll(".statement")[j].textContent])));
-    const box = document.getElementById("lanes").getBoundingClientRect();
+    const lanes = document.getElementById("lanes"), box = lanes.getBoundingClientRect();
+    lanes.dispatchEvent(new Event("scroll"));
     const step = k === 0 ? box : all("#lanes .step")[k - 1].querySelector("circle").getBoundingClientRect();
-    if (step.top < box.top || step.bottom > box.bottom || step.left < box.left || step.right > box.right) unseen.push(k);
+    const number = k === 0 ? box : all("#edge text")[k - 1].getBoundingClientRect();
+    if (step.top < box.top || step.bottom > box.bottom || step.left < box.left || step.right > box.right
+      || number.left < box.left) unseen.push(k);
   }
   const text = (id) => document.getElementById(id).textContent, search = document.getElementById("search");
   const shown = { states: seen, title: text("title"), scripts: document.scripts.length,

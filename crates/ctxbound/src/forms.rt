@@ -1,12 +1,12 @@
 //! The formats of an explanation beside text in columns: JSON and an HTML page.
 
-use ctxbound_explained::{Explained, Output, Render, has_fewest_preemptions, no_schedule_text};
-use explain_json::{explanation_json, no_schedule_json};
-use explain_page::{explanation_html, no_schedule_html};
-use explain_run::{Explanation, Source};
+use ctxbound_explained::{Output, Render, has_fewest_preemptions, no_schedule_text};
+use explain_page::{explanation_html, explanation_json, no_schedule_html, no_schedule_json};
 use explain_text::{Layout, why_text};
+use explain_told::Told;
 use runner::{Report, report_value};
-use std::alloc::Global;
+use serde_json::Value;
+use std::alloc::{AllocError, Global};
 
 /// The format of explanations as JSON.
 #[derive(Clone, Copy)]
@@ -20,57 +20,42 @@ pub struct Html;
 const PAGE_WIDTH: usize = 1000;
 
 impl Render for Json {
-    // The JSON of the explanation, with the report of the search where a search found the schedule;
-    // or the JSON of the report of a search that found no bad schedule.
-    fn render(&self, alloc: Global, answer: &Explained, source: &Source<'_>, file: &str) -> Output {
-        match answer {
-            Explained::Asked(explanation) => explanation_json(alloc, explanation, source, None),
-            Explained::Found(report, explanation) => {
-                let ends = report_value(alloc, report)?;
-                explanation_json(alloc, explanation, source, Some(ends))
-            }
-            Explained::NoneFound(report) => {
-                no_schedule_json(alloc, file, report_value(alloc, report)?)
-            }
-        }
+    // The JSON of the explanation, with the report of the search where a search found the schedule.
+    fn explanation(&self, told: &Told<'_>, search: Option<&Report>) -> Output {
+        explanation_json(told, search_value(told.alloc, search)?)
+    }
+
+    // The JSON of the report of a search that found no bad schedule.
+    fn no_schedule(&self, alloc: Global, file: &str, report: &Report) -> Output {
+        no_schedule_json(alloc, file, report_value(alloc, report)?)
     }
 }
 
 impl Render for Html {
-    // The page of the explanation, with the report of the search where a search found the schedule;
-    // or a page with the sentence that a search found no bad schedule.
-    fn render(&self, alloc: Global, answer: &Explained, source: &Source<'_>, file: &str) -> Output {
-        match answer {
-            Explained::Asked(explanation) => page(alloc, explanation, source, None),
-            Explained::Found(report, explanation) => {
-                page(alloc, explanation, source, Some(report))
-            }
-            Explained::NoneFound(report) => {
-                let sentence = no_schedule_text(alloc, file, report)?;
-                no_schedule_html(alloc, file, sentence.as_str())
-            }
-        }
+    // The page of the explanation, with its text, where steps that matter less share rows (`steps`
+    // is 0), and with the report of the search that found the schedule, if one did.
+    fn explanation(&self, told: &Told<'_>, search: Option<&Report>) -> Output {
+        let layout = Layout {
+            width: PAGE_WIDTH,
+            steps: 0,
+            is_fewest: search.map(has_fewest_preemptions),
+        };
+        let why = why_text(told, layout)?;
+        let why = String::from_utf8_lossy(told.alloc, why.as_slice())?;
+        explanation_html(told, search_value(told.alloc, search)?, why.as_str())
+    }
+
+    // A page with the sentence that a search found no bad schedule.
+    fn no_schedule(&self, alloc: Global, file: &str, report: &Report) -> Output {
+        let sentence = no_schedule_text(alloc, file, report)?;
+        no_schedule_html(alloc, file, sentence.as_str())
     }
 }
 
-// The page of an explanation, with its text, where steps that matter less share rows (`steps` is 0),
-// and with the report of the search that found the schedule, if one did.
-fn page(
-    alloc: Global,
-    explanation: &Explanation,
-    source: &Source<'_>,
-    report: Option<&Report>,
-) -> Output {
-    let layout = Layout {
-        width: PAGE_WIDTH,
-        steps: 0,
-        is_fewest: report.map(has_fewest_preemptions),
-    };
-    let why = why_text(alloc, explanation, source, layout)?;
-    let why = String::from_utf8_lossy(alloc, why.as_slice())?;
-    let ends = match report {
-        Some(report) => Some(report_value(alloc, report)?),
-        None => None,
-    };
-    explanation_html(alloc, explanation, source, ends, why.as_str())
+// The report of the search that found a schedule, if one did, as JSON.
+fn search_value(alloc: Global, search: Option<&Report>) -> Result<Option<Value>, AllocError> {
+    match search {
+        Some(report) => Ok(Some(report_value(alloc, report)?)),
+        None => Ok(None),
+    }
 }

@@ -10,8 +10,9 @@ ghost use Rattle.ctxbound_explained.specs.Explained.{ExplainMeans, ExplainFaultM
 use ctxbound_answers::{
     ExplainRequest, Exploration, Fault, Host, Printed, REFUSED, replay_status, verdict_status,
 };
-use explain_run::{Explanation, Source};
+use explain_run::{Explanation, Source, name_text};
 use explain_text::{Layout, explanation_text, run_out_lines};
+use explain_told::Told;
 use guest_code::lowering::lower;
 use guest_code::program::Program;
 use guest_code::source_map::SourceMap;
@@ -29,9 +30,12 @@ pub type Output = Result<Vec<u8>, AllocError>;
 
 /// A format of explanations, such as text, JSON or a page.
 pub trait Render {
-    /// The answer in this format: an explanation, or that a search found no bad schedule. `source`
-    /// is the program, and `file` the name of its file.
-    fn render(&self, alloc: Global, answer: &Explained, source: &Source<'_>, file: &str) -> Output;
+    /// An explanation in this format. `search` is the report of the search that found the schedule,
+    /// if one did.
+    fn explanation(&self, told: &Told<'_>, search: Option<&Report>) -> Output;
+
+    /// That a search of the program in this file found no bad schedule, in this format.
+    fn no_schedule(&self, alloc: Global, file: &str, report: &Report) -> Output;
 }
 
 /// The format of explanations as text, in lines of at most `width` columns. Each step has a row
@@ -43,24 +47,20 @@ pub struct Text {
 }
 
 impl Render for Text {
-    // The explanation as text, or the sentence that a search found no bad schedule. Where a search
-    // found it the text also says whether that showed that no bad schedule has fewer preemptions.
-    fn render(&self, alloc: Global, answer: &Explained, source: &Source<'_>, file: &str) -> Output {
-        let (explanation, is_fewest) = match answer {
-            Explained::Asked(explanation) => (explanation, None),
-            Explained::Found(report, explanation) => {
-                (explanation, Some(has_fewest_preemptions(report)))
-            }
-            Explained::NoneFound(report) => {
-                return Ok(no_schedule_text(alloc, file, report)?.into_bytes());
-            }
-        };
+    // The explanation as text. Where a search found the schedule it also says whether that showed
+    // that no bad schedule has fewer preemptions.
+    fn explanation(&self, told: &Told<'_>, search: Option<&Report>) -> Output {
         let layout = Layout {
             width: self.width,
             steps: self.steps,
-            is_fewest,
+            is_fewest: search.map(has_fewest_preemptions),
         };
-        explanation_text(alloc, explanation, source, layout)
+        explanation_text(told, layout)
+    }
+
+    // The sentence that a search found no bad schedule.
+    fn no_schedule(&self, alloc: Global, file: &str, report: &Report) -> Output {
+        Ok(no_schedule_text(alloc, file, report)?.into_bytes())
     }
 }
 
@@ -83,15 +83,14 @@ pub fn explain_text<H: Host, T: Render>(
     let alloc = rt.alloc();
     let (program, map) = program_and_map(alloc, text)?;
     let explained = Explained::of_request(rt, &program, request)?;
-    let file = request.file.as_str();
     let source = Source {
-        file: file.as_bytes(),
+        file: request.file.as_bytes(),
         text,
         program: &program,
         map: &map,
     };
     Ok(Printed {
-        output: renderer.render(alloc, &explained, &source, file)?,
+        output: explained.output(alloc, &source, renderer)?,
         status: explained.status(),
     })
 }
@@ -116,7 +115,7 @@ pub fn run_out_text(
         program: &program,
         map: &map,
     };
-    Ok(run_out_lines(alloc, &explanation, &source)?)
+    Ok(run_out_lines(&Told::new(alloc, &explanation, &source)?)?)
 }
 
 // The program that a text spells, and where its instructions are in the text.
@@ -173,6 +172,18 @@ impl Explained {
         };
         let explanation = Explanation::new(alloc, program, steps)?;
         Ok(Explained::Found(report, explanation))
+    }
+
+    // What is printed, in the format of `renderer`; `source` has the program that is explained.
+    fn output<T: Render>(&self, alloc: Global, source: &Source<'_>, renderer: &T) -> Output {
+        let (explanation, search) = match self {
+            Explained::Asked(explanation) => (explanation, None),
+            Explained::Found(report, explanation) => (explanation, Some(report)),
+            Explained::NoneFound(report) => {
+                return renderer.no_schedule(alloc, name_text(source.file), report);
+            }
+        };
+        renderer.explanation(&Told::new(alloc, explanation, source)?, search)
     }
 
     // The status that `ctxbound` ends with: that of the explanation, or, where the search found no

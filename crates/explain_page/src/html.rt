@@ -1,8 +1,9 @@
 //! The explanation of a schedule as a page of HTML.
 
+use crate::facts::Facts;
+use crate::json::facts_json;
 use crate::page::{HEAD, PAGE_BEGIN, PAGE_END, SENTENCE_BEGIN, SENTENCE_END, SENTENCE_MIDDLE};
-use explain_json::page_json;
-use explain_run::{Explanation, Source};
+use explain_told::Told;
 use serde_json::Value;
 use std::alloc::{AllocError, Global};
 
@@ -15,14 +16,13 @@ const SAFE_DIGITS: usize = 15;
 /// search that found the schedule, if one did: the page shows how its schedules end. `why` says in
 /// words how the schedule ends and why, and its last line is the command that replays the schedule.
 /// Fails where memory runs out.
-pub fn explanation_html<'a>(
-    alloc: Global,
-    explanation: &'a Explanation,
-    source: &'a Source<'a>,
+pub fn explanation_html(
+    told: &Told<'_>,
     search: Option<Value>,
-    why: &'a str,
+    why: &str,
 ) -> Result<Vec<u8>, AllocError> {
-    let data = page_json(alloc, explanation, source, search, why)?;
+    let alloc = told.alloc;
+    let data = facts_json(&Facts::new(&*told, search, Some(&*why))?)?;
     let mut page = Vec::from_slice(alloc, HEAD.as_bytes())?;
     page.extend_from_slice(PAGE_BEGIN.as_bytes())?;
     put_script_json(&mut page, alloc, data.as_slice())?;
@@ -66,8 +66,10 @@ fn put_script_json(page: &mut Vec<u8>, alloc: Global, data: &[u8]) -> Result<(),
         if !is_text && matches!(*byte, b'-' | b'0'..=b'9') {
             number.push(*byte)?;
         } else {
-            put_number(page, number.as_slice())?;
-            number.clear();
+            if !number.is_empty() {
+                put_number(page, number.as_slice())?;
+                number.clear();
+            }
             match *byte {
                 b'<' => page.extend_from_slice(b"\\u003c")?,
                 byte => page.push(byte)?,
@@ -79,8 +81,7 @@ fn put_script_json(page: &mut Vec<u8>, alloc: Global, data: &[u8]) -> Result<(),
     Ok(())
 }
 
-// Adds the bytes of a number, in quotes where a script might not keep all of its digits. Nothing is
-// added where there are no bytes.
+// Adds the bytes of a number, in quotes where a script might not keep all of its digits.
 fn put_number(page: &mut Vec<u8>, number: &[u8]) -> Result<(), AllocError> {
     let quote = if number.len() > SAFE_DIGITS { "\"" } else { "" };
     page.extend_from_slice(quote.as_bytes())?;

@@ -226,14 +226,20 @@ function drawLanes() {
     const group = draw(svg, "g", { class: "step" + (s.cause ? " cause" : ""), id: "step" + k });
     const top = yOf(k) - row / 2 - 2;
     if (s.preempting) draw(group, "rect", { x: 0, y: top, width: wide, height: 4, class: "interruption" });
-    if (s.cause) draw(group, "path", { d: "M4 " + (yOf(k) - 5) + "l8 5l-8 5z", class: "mark" });
-    draw(group, "text", { x: 18, y: yOf(k) + 4, class: "soft" }, String(k));
     draw(group, "circle",
       { cx: xOf(s.thread), cy: yOf(k), r: 4, style: "fill:" + (s.stop === null ? colour(s.thread) : "var(--bad)") });
     draw(group, "text", { x: xOf(s.thread) + 9, y: yOf(k) + 4, class: s.stop === null ? "label" : "label failed" },
       label(s));
     group.addEventListener("click", () => show(place + 1));
   });
+  // The numbers and marks of the steps stay where they are when the box is scrolled to the right.
+  const edge = draw(svg, "g", { id: "edge" });
+  rows.forEach((k, place) => {
+    if (steps[k].cause) draw(edge, "path", { d: "M4 " + (yOf(k) - 5) + "l8 5l-8 5z", class: "mark" });
+    draw(edge, "text", { x: 18, y: yOf(k) + 4, class: "halo soft" }, String(k)).onclick = () => show(place + 1);
+  });
+  byId("lanes").addEventListener("scroll",
+    (e) => edge.setAttribute("transform", "translate(" + e.target.scrollLeft + ")"));
   const legend = byId("legend");
   const item = (sign, text, name) => {
     const e = make("span");

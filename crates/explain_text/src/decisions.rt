@@ -14,20 +14,23 @@ const TEST_INDENT: usize = 4;
 /// The column at which what doesn't fit into a line goes on in the next one.
 const INDENT: usize = 8;
 
+/// The column at which the values of a test begin, and at which the words above them go on.
+const VALUE_INDENT: usize = 6;
+
 /// How the values of a test are shown.
 pub const VALUE_LAYOUT: ValueLayout = ValueLayout {
-    indent: 6,
+    indent: VALUE_INDENT,
     most_values: 3,
     is_later_change_told: true,
 };
 
 impl TextWriter<'_> {
     /// Writes the tests in the cause before the event at place `end`, the last first, one for each
-    /// place in the text. Locals that the events at the places `values` set were told before.
-    pub fn put_tests(&self, page: &mut Page, end: usize, values: &mut Vec<usize>) -> Written {
+    /// place in the text. Locals that the events at the places `before` set were told before.
+    pub fn put_tests(&self, page: &mut Page, end: usize, before: &mut BTreeSet<usize>) -> Written {
         // the variables that later events of the cause read
-        let (mut told, mut read) = (Vec::new(self.alloc), BTreeSet::new(self.alloc));
-        for (at, test) in self.causes.events().iter().enumerate().rev() {
+        let (mut told, mut read) = (Vec::new(self.told.alloc), BTreeSet::new(self.told.alloc));
+        for (at, test) in self.told.causes.events().iter().enumerate().rev() {
             if !self.is_event_in_cause(at) {
                 continue;
             }
@@ -35,13 +38,13 @@ impl TextWriter<'_> {
                 && told.len() < MOST_TESTS
                 && let Instruction::SkipIfZero(expression, _) = test.statement
             {
-                let place = self.source.place(test.thread, test.instruction);
+                let place = self.told.source.place(test.thread, test.instruction);
                 if !told.as_slice().contains(&place) {
                     told.push(place)?;
                     self.put_outcome(page, (at, test), end, &read)?;
                     self.put_test(page, test)?;
                     page.end_line(TEST_INDENT, INDENT)?;
-                    self.put_values(page, (at, expression), VALUE_LAYOUT, values)?;
+                    self.put_values(page, (at, expression), VALUE_LAYOUT, before)?;
                 }
             }
             read.extend(test.variable_read())?;
@@ -52,19 +55,22 @@ impl TextWriter<'_> {
     /// Writes the last test by which a thread came to wait for a condition or a semaphore, if there
     /// is one, and where its values came from.
     pub fn put_test_of_wait(&self, page: &mut Page, wait: &Wait) -> Written {
-        let (program, at) = (self.source.program, self.instruction_at_end(wait.thread));
-        let events = self.causes.events().iter().enumerate().rev();
+        let (program, at) = (
+            self.told.source.program,
+            self.instruction_at_end(wait.thread),
+        );
+        let events = self.told.causes.events().iter().enumerate().rev();
         let mut own = events.filter(|(_, event)| event.thread == wait.thread && is_test(event));
         let last = own.find(|(_, test)| is_decided(program, wait.thread, test.instruction, at));
         if let Some((place, test)) = last
             && let Instruction::SkipIfZero(expression, _) = test.statement
             && wait.reason.mutex().is_none()
         {
-            write!(page, "  {} waits", self.thread_name(wait.thread))?;
+            write!(page, "  {} waits", self.told.thread_name(wait.thread))?;
             self.put_test(page, test)?;
-            page.end_line(0, VALUE_LAYOUT.indent)?;
-            let told = &mut Vec::new(self.alloc);
-            self.put_values(page, (place, expression), VALUE_LAYOUT, told)?;
+            page.end_line(0, VALUE_INDENT)?;
+            let before = &mut BTreeSet::new(self.told.alloc);
+            self.put_values(page, (place, expression), VALUE_LAYOUT, before)?;
         }
         Ok(())
     }
@@ -86,11 +92,11 @@ impl TextWriter<'_> {
         end: usize,
         read: &BTreeSet<usize>,
     ) -> Written {
-        let (name, last) = (self.thread_name(test.thread), self.event(end));
+        let (name, last) = (self.told.thread_name(test.thread), self.told.event(end));
         if last.is_some_and(|last| self.decides(test, &last)) {
             return page.write("came here");
         }
-        let all = self.causes.events().iter().copied().enumerate();
+        let all = self.told.causes.events().iter().copied().enumerate();
         let led = all
             .skip(at.saturating_add(1))
             .filter(|(place, event)| self.is_event_in_cause(*place) && self.decides(test, event))
@@ -109,7 +115,7 @@ impl TextWriter<'_> {
 
     // Whether the instruction of this number of a thread writes, or may write, one of these variables.
     fn writes_one(&self, thread: u8, instruction: usize, variables: &BTreeSet<usize>) -> bool {
-        match self.source.instruction(thread, instruction) {
+        match self.told.source.instruction(thread, instruction) {
             Some(
                 Instruction::Store { variable, .. }
                 | Instruction::Add { variable, .. }
@@ -120,12 +126,12 @@ impl TextWriter<'_> {
     }
 
     fn decides(&self, test: &Event, later: &Event) -> bool {
-        let (program, thread) = (self.source.program, test.thread);
+        let (program, thread) = (self.told.source.program, test.thread);
         later.thread == thread && is_decided(program, thread, test.instruction, later.instruction)
     }
 
     fn is_event_in_cause(&self, at: usize) -> bool {
-        self.causes.marks().get(at).copied().unwrap_or(false)
+        self.told.causes.marks().get(at).copied().unwrap_or(false)
     }
 }
 

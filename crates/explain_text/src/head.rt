@@ -4,10 +4,12 @@ use crate::origins::ValueLayout;
 use crate::text::TextWriter;
 use explain_cause::{Event, Failure};
 use explain_lines::{Count, InLine, Page, Written};
-use explain_run::{Holder, Object, Repeat};
+use explain_run::{Object, Repeat};
+use explain_told::Told;
 use guest_code::program::Instruction;
 use semantics::view::Kind;
 use std::alloc::AllocError;
+use std::collections::BTreeSet;
 
 /// The column at which a line begins that says why a thread stopped in an error.
 const REASON_INDENT: usize = 4;
@@ -24,28 +26,31 @@ const VALUE_LAYOUT: ValueLayout = ValueLayout {
 impl TextWriter<'_> {
     /// Writes how the schedule ended and after how many steps; of a failure, also where and why.
     pub fn put_head(&self, page: &mut Page) -> Written {
-        if let Some(failure) = self.causes.failure()
-            && let Some(event) = self.event(failure.event)
+        if let Some(failure) = self.told.causes.failure()
+            && let Some(event) = self.told.event(failure.event)
         {
             return self.put_failure(page, failure, event);
         }
-        let ending = match self.explanation.kind() {
+        let ending = match self.told.explanation.kind() {
             Some(Kind::Stuck) => "STUCK",
             Some(_) => "DONE",
-            None if self.explanation.refused().is_some() => "REFUSED",
+            None if self.told.explanation.refused().is_some() => "REFUSED",
             None => "NOT COMPLETE",
         };
-        let (steps, preemptions) = (self.explanation.steps(), self.explanation.preemptions());
+        let (steps, preemptions) = (
+            self.told.explanation.steps(),
+            self.told.explanation.preemptions(),
+        );
         write!(page, "{}: {ending} ", self.main_file_name())?;
         self.put_counts(page, steps.len(), preemptions)
     }
 
     // The file that the guest's lines come from; where those are several, the one that was read.
     fn main_file_name(&self) -> &str {
-        (0..self.source.program.threads())
-            .map(|thread| self.line(thread, 0))
+        (0..self.told.source.program.threads())
+            .map(|thread| self.told.line(thread, 0))
             .find(|line| line.line > 0 && !line.is_named)
-            .map_or(self.file_name(), |line| line.file)
+            .map_or(self.told.file_name(), |line| line.file)
     }
 
     // Ends a line with these counts, and whether none with fewer preemptions is bad, if that is known.
@@ -70,53 +75,36 @@ impl TextWriter<'_> {
             "{line}: FAILED: {statement}   in {name}{turns}{comma} "
         )?;
         self.put_counts(page, steps, failure.preemptions)?;
-        let mut told = Vec::new(self.alloc);
-        self.put_reason(page, failure.event, event.statement, &mut told)?;
+        let mut before = BTreeSet::new(self.told.alloc);
+        self.put_reason(page, failure.event, event.statement, &mut before)?;
         self.put_repeats(page, failure.event)?;
-        self.put_tests(page, failure.event, &mut told)
+        self.put_tests(page, failure.event, &mut before)
     }
 
     fn put_repeats(&self, page: &mut Page, at: usize) -> Written {
-        for repeat in &self.causes.repeats_run_out(self.alloc, self.source, at)? {
-            page.write(self.repeat_text(repeat)?)?;
+        let told = self.told;
+        for repeat in &told.causes.repeats_run_out(told.alloc, told.source, at)? {
+            page.write(repeat_text(told, repeat)?)?;
             page.end_line(REASON_INDENT, INDENT)?;
         }
         Ok(())
     }
 
-    fn repeat_text(&self, repeat: &Repeat) -> Result<String, AllocError> {
-        let line = InLine(self.marks.file_line(self.file_name(), repeat.at.line));
-        let turns = Count(repeat.turns, "turn");
-        format!(in self.alloc; "the `repeat` in {line} ran out of its {turns}")
-    }
-
-    /// Which loops ran out of turns before a thread first stopped in an error: a line for each.
-    pub fn run_out_lines(&self) -> Result<String, AllocError> {
-        let mut lines = String::new(self.alloc);
-        if let Some(failure) = self.causes.failure() {
-            let at = failure.event;
-            for repeat in &self.causes.repeats_run_out(self.alloc, self.source, at)? {
-                writeln!(lines, "There {}.", self.repeat_text(repeat)?)?;
-            }
-        }
-        Ok(lines)
-    }
-
-    // Writes why the event at a place failed; adds to `told` the places that set the locals shown.
+    // Writes why the event at a place failed; adds to `before` the places that set the locals shown.
     fn put_reason(
         &self,
         page: &mut Page,
         at: usize,
         statement: Instruction,
-        told: &mut Vec<usize>,
+        before: &mut BTreeSet<usize>,
     ) -> Written {
         match statement {
-            Instruction::Assert(e) => return self.put_values(page, (at, e), VALUE_LAYOUT, told),
+            Instruction::Assert(e) => return self.put_values(page, (at, e), VALUE_LAYOUT, before),
             Instruction::Unlock(m) | Instruction::Wait { mutex: m, .. } => {
                 self.put_owner(page, at, m)?;
             }
             Instruction::Release(k) => {
-                let name = self.object_name(Object::Semaphore(k));
+                let name = self.told.object_name(Object::Semaphore(k));
                 write!(page, "{name} is 65535, which is its limit")?;
             }
             _ => return Ok(()),
@@ -126,22 +114,36 @@ impl TextWriter<'_> {
 
     // Writes who owned a mutex before the event at a place, or that it was free, and since when.
     fn put_owner(&self, page: &mut Page, at: usize, mutex: usize) -> Written {
-        let holder = self.holder_before(at, mutex);
+        let holder = self.told.holder_before(at, mutex);
         self.put_holder(page, mutex, holder)?;
-        let change = self.causes.last_owner_change(at, mutex);
+        let change = self.told.causes.last_owner_change(at, mutex);
         if holder.is_none()
-            && let Some(event) = change.and_then(|place| self.event(place))
+            && let Some(event) = change.and_then(|place| self.told.event(place))
         {
             let (step, site) = (event.step.unwrap_or(0), self.event_site(&event));
             write!(page, " since step {step} ({}, {site})", site.name)?;
         }
         Ok(())
     }
+}
 
-    // Who owned a mutex before the event at a place, and since when; `None` where it was free.
-    fn holder_before(&self, at: usize, mutex: usize) -> Option<Holder> {
-        let event = self.event(self.causes.owned_since(at, mutex)?)?;
-        let (thread, since) = (event.thread, event.step?);
-        Some(Holder { thread, since })
+/// Which loops ran out of turns before a thread first stopped in an error, a line for each; empty
+/// where no thread stopped. Fails where memory runs out.
+pub fn run_out_lines(told: &Told<'_>) -> Result<String, AllocError> {
+    let mut lines = String::new(told.alloc);
+    if let Some(failure) = told.causes.failure() {
+        for repeat in &told
+            .causes
+            .repeats_run_out(told.alloc, told.source, failure.event)?
+        {
+            writeln!(lines, "There {}.", repeat_text(told, repeat)?)?;
+        }
     }
+    Ok(lines)
+}
+
+fn repeat_text(told: &Told<'_>, repeat: &Repeat) -> Result<String, AllocError> {
+    let line = InLine(told.marks.file_line(told.file_name(), repeat.at.line));
+    let turns = Count(repeat.turns, "turn");
+    format!(in told.alloc; "the `repeat` in {line} ran out of its {turns}")
 }

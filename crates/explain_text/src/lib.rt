@@ -11,4 +11,5 @@ mod rows;
 mod text;
 mod unblocking;
 
-pub use crate::text::{Layout, explanation_text, run_out_lines, why_text};
+pub use crate::head::run_out_lines;
+pub use crate::text::{Layout, explanation_text, why_text};

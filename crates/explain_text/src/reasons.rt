@@ -24,13 +24,13 @@ impl TextWriter<'_> {
     /// Where the schedule is stuck or a thread failed, writes why each blocked one can't go on and
     /// who could end the waits; then why the next step can't be taken, and who is still enabled.
     pub fn put_reasons(&self, page: &mut Page) -> Written {
-        let title = match self.explanation.kind() {
+        let title = match self.told.explanation.kind() {
             Some(Kind::Stuck) => Some("Why nobody can go on"),
-            _ if self.causes.failure().is_some() => Some("Blocked meanwhile"),
+            _ if self.told.causes.failure().is_some() => Some("Blocked meanwhile"),
             _ => None,
         };
         if let Some(title) = title
-            && !self.waits.all().is_empty()
+            && !self.told.waits.all().is_empty()
         {
             page.put_line(title, 0)?;
             self.put_blocked_threads(page)?;
@@ -42,10 +42,10 @@ impl TextWriter<'_> {
 
     fn put_blocked_threads(&self, page: &mut Page) -> Written {
         let widths = self.column_widths()?;
-        for circle in self.waits.circles() {
+        for circle in self.told.waits.circles() {
             self.put_circle(page, *circle, widths)?;
         }
-        let waits = self.waits.all().iter();
+        let waits = self.told.waits.all().iter();
         for wait in waits.filter(|wait| wait.is_in_no_circle()) {
             self.put_wait_row(page, wait, widths)?;
         }
@@ -54,11 +54,11 @@ impl TextWriter<'_> {
 
     // Writes the rows of a circle, and that its threads wait for one another.
     fn put_circle(&self, page: &mut Page, circle: Mask, widths: Widths) -> Written {
-        let (mut names, mut size) = (String::new(self.alloc), 0_usize);
-        let waits = self.waits.all().iter();
+        let (mut names, mut size) = (String::new(self.told.alloc), 0_usize);
+        let waits = self.told.waits.all().iter();
         for wait in waits.filter(|wait| circle.has(wait.thread)) {
             self.put_wait_row(page, wait, widths)?;
-            push_entry(&mut names, self.thread_name(wait.thread))?;
+            push_entry(&mut names, self.told.thread_name(wait.thread))?;
             size = size.saturating_add(1);
         }
         match size {
@@ -68,7 +68,7 @@ impl TextWriter<'_> {
     }
 
     fn put_wait_row(&self, page: &mut Page, wait: &Wait, widths: Widths) -> Written {
-        let (name, place) = (self.thread_name(wait.thread), self.blocked_site(wait)?);
+        let (name, place) = (self.told.thread_name(wait.thread), self.blocked_site(wait)?);
         let (n, p) = (widths.name, widths.place);
         write!(page, "  {name:<n$}  {place:<p$}   ")?;
         self.put_reason_of(page, wait)?;
@@ -84,14 +84,14 @@ impl TextWriter<'_> {
     /// As text, the line at which a blocked thread is, and what it waits to do there.
     pub fn blocked_site(&self, wait: &Wait) -> Result<String, AllocError> {
         let (line, action) = (self.line_at_end(wait.thread), self.blocked_action(wait)?);
-        format!(in self.alloc; "at {line}: {action}")
+        format!(in self.told.alloc; "at {line}: {action}")
     }
 
     // The widths that all rows need.
     fn column_widths(&self) -> Result<Widths, AllocError> {
         let mut widths = Widths::default();
-        for wait in self.waits.all() {
-            widths.name = width_of(self.thread_name(wait.thread)).max(widths.name);
+        for wait in self.told.waits.all() {
+            widths.name = width_of(self.told.thread_name(wait.thread)).max(widths.name);
             widths.place = width_of(self.blocked_site(wait)?.as_str()).max(widths.place);
         }
         Ok(widths)
@@ -99,15 +99,15 @@ impl TextWriter<'_> {
 
     // Writes why a thread can't go on: who has what it waits for, or since when it waits.
     fn put_reason_of(&self, page: &mut Page, wait: &Wait) -> Written {
-        let name = self.object_name(wait.reason.object());
+        let name = self.told.object_name(wait.reason.object());
         match wait.reason {
             Reason::Lock(m) | Reason::Retake(m) => {
-                let holder = self.explanation.holder(m);
+                let holder = self.told.explanation.holder(m);
                 self.put_holder(page, m, holder)?;
                 page.write(self.holder_end_text(holder))
             }
             Reason::Acquire(k) => {
-                let steps = self.explanation.steps().iter().enumerate();
+                let steps = self.told.explanation.steps().iter().enumerate();
                 let taken = steps.filter(|(_, step)| step.line.act == Act::Acquire(k));
                 let Some((at, step)) = taken.last() else {
                     return write!(page, "{name} is 0 from the start");
@@ -128,11 +128,11 @@ impl TextWriter<'_> {
 
     /// Writes who owns a mutex and since which step, or that it is free if `holder` is `None`.
     pub fn put_holder(&self, page: &mut Page, mutex: usize, holder: Option<Holder>) -> Written {
-        let name = self.object_name(Object::Mutex(mutex));
+        let name = self.told.object_name(Object::Mutex(mutex));
         let Some(Holder { thread, since }) = holder else {
             return write!(page, "{name} is free");
         };
-        let instruction = self.step(since).map_or(0, |step| step.instruction);
+        let instruction = self.told.step(since).map_or(0, |step| step.instruction);
         let site = self.site(thread, instruction);
         let (owner, line) = (site.name, site.line);
         write!(
@@ -143,7 +143,7 @@ impl TextWriter<'_> {
 
     // As text, that the holder ended or stopped and owns its mutex still; empty if neither is so.
     fn holder_end_text(&self, holder: Option<Holder>) -> &'static str {
-        let standing = holder.and_then(|holder| self.explanation.thread_state(holder.thread));
+        let standing = holder.and_then(|holder| self.told.explanation.thread_state(holder.thread));
         match standing.map(|standing| standing.status) {
             Some(Status::Ended) => ", which ended and owns it still",
             Some(Status::Stopped(_)) => ", which stopped and owns it still",
@@ -157,14 +157,17 @@ impl TextWriter<'_> {
             Reason::Lock(m) | Reason::Retake(m) => m,
             _ => return false,
         };
-        let holder = self.explanation.holder(mutex);
-        let owner = holder.and_then(|holder| self.explanation.thread_state(holder.thread));
+        let holder = self.told.explanation.holder(mutex);
+        let owner = holder.and_then(|holder| self.told.explanation.thread_state(holder.thread));
         owner.is_some_and(|owner| owner.status == Status::Ended) && !wait.statements.is_empty()
     }
 
     // Writes why the schedule's next step can't be taken, and who could go on if it isn't complete.
     fn put_continuation(&self, page: &mut Page) -> Written {
-        let (kind, refused) = (self.explanation.kind(), self.explanation.refused());
+        let (kind, refused) = (
+            self.told.explanation.kind(),
+            self.told.explanation.refused(),
+        );
         if kind.is_some() && refused.is_none() {
             return Ok(());
         }
@@ -184,24 +187,27 @@ impl TextWriter<'_> {
     }
 
     fn put_enabled(&self, page: &mut Page) -> Written {
-        let mut names = String::new(self.alloc);
-        for t in 0..self.source.program.threads() {
-            let standing = self.explanation.thread_state(t);
+        let mut names = String::new(self.told.alloc);
+        for t in 0..self.told.source.program.threads() {
+            let standing = self.told.explanation.thread_state(t);
             if standing.is_some_and(|standing| standing.is_enabled()) {
-                push_entry(&mut names, format_args!("{} ({t})", self.thread_name(t)))?;
+                push_entry(
+                    &mut names,
+                    format_args!("{} ({t})", self.told.thread_name(t)),
+                )?;
             }
         }
         write!(page, "Could go on: {names}")
     }
 
     fn put_refused_step(&self, page: &mut Page, thread: u8) -> Written {
-        let at = self.explanation.steps().len();
+        let at = self.told.explanation.steps().len();
         write!(page, "Step {at} can't be taken: ")?;
-        let Some(standing) = self.explanation.thread_state(thread) else {
+        let Some(standing) = self.told.explanation.thread_state(thread) else {
             return write!(page, "there is no thread {thread}.");
         };
-        write!(page, "{thread} {}", self.thread_name(thread))?;
-        match (self.waits.get(thread), standing.is_stopped()) {
+        write!(page, "{thread} {}", self.told.thread_name(thread))?;
+        match (self.told.waits.get(thread), standing.is_stopped()) {
             (Some(wait), _) => {
                 write!(page, " is blocked {}; ", self.blocked_site(wait)?)?;
                 self.put_reason_of(page, wait)?;

@@ -24,7 +24,7 @@ impl TextWriter<'_> {
     pub fn put_table(&self, page: &mut Page) -> Result<usize, AllocError> {
         self.put_header(page)?;
         self.put_initial_stops(page)?;
-        let steps = self.explanation.steps().len();
+        let steps = self.told.explanation.steps().len();
         let (mut shown, mut next) = (0_usize, 0);
         for at in 0..steps {
             if self.is_left_out(at) {
@@ -43,14 +43,14 @@ impl TextWriter<'_> {
 
     /// Of each thread, how wide its name is, and the widest of its cells in the table.
     pub fn column_contents(&self) -> Result<Vec<Content>, AllocError> {
-        let mut contents = Vec::new(self.alloc);
-        for thread in 0..self.source.program.threads() {
-            let name = width_of(self.thread_name(thread));
+        let mut contents = Vec::new(self.told.alloc);
+        for thread in 0..self.told.source.program.threads() {
+            let name = width_of(self.told.thread_name(thread));
             let cell = self.end_cell_width(thread)?;
             contents.push(Content { name, cell })?;
         }
-        let mut seen = BTreeSet::new(self.alloc);
-        for (at, step) in self.explanation.steps().iter().enumerate() {
+        let mut seen = BTreeSet::new(self.told.alloc);
+        for (at, step) in self.told.explanation.steps().iter().enumerate() {
             let (thread, instruction) = (step.line.thread, step.instruction);
             let is_shown = !self.is_left_out(at) && self.has_own_row(at);
             if is_shown
@@ -67,9 +67,9 @@ impl TextWriter<'_> {
 
     // The columns of a thread's widest cell where it is blocked in a deadlock, or else of `assert`.
     fn end_cell_width(&self, thread: u8) -> Result<usize, AllocError> {
-        match self.waits.get(thread) {
-            Some(wait) if self.explanation.kind() == Some(Kind::Stuck) => {
-                let place = format!(in self.alloc; "BLOCKED at {}", self.line_at_end(thread))?;
+        match self.told.waits.get(thread) {
+            Some(wait) if self.told.explanation.kind() == Some(Kind::Stuck) => {
+                let place = format!(in self.told.alloc; "BLOCKED at {}", self.line_at_end(thread))?;
                 let action = self.blocked_action(wait)?;
                 Ok(width_of(place.as_str()).max(width_of(action.as_str())))
             }
@@ -79,15 +79,15 @@ impl TextWriter<'_> {
 
     /// The columns of the widest cell that has a file's name, as `worker.inc:12`; 0 without any.
     pub fn line_cell_width(&self) -> Result<usize, AllocError> {
-        let steps = self.explanation.steps().iter();
-        let threads = 0..self.source.program.threads();
+        let steps = self.told.explanation.steps().iter();
+        let threads = 0..self.told.source.program.threads();
         let places = steps.map(|step| (step.line.thread, step.instruction));
         let places = places.chain(threads.map(|t| (t, self.instruction_at_end(t))));
         let mut widest = 0;
         for (thread, instruction) in places {
-            let line = self.line(thread, instruction);
+            let line = self.told.line(thread, instruction);
             if line.is_named {
-                widest = width_of(line_cell(self.alloc, line)?.as_str()).max(widest);
+                widest = width_of(line_cell(self.told.alloc, line)?.as_str()).max(widest);
             }
         }
         Ok(widest)
@@ -95,45 +95,40 @@ impl TextWriter<'_> {
 
     /// The thread that took the step at a place of the schedule; `None` where no step ran there.
     pub fn thread_of_step(&self, at: usize) -> Option<u8> {
-        self.step(at).map(|step| step.line.thread)
+        self.told.step(at).map(|step| step.line.thread)
     }
 
     /// Whether the thread of the step at a place is still enabled, and another takes the next step.
     pub fn is_preempted_after(&self, at: usize) -> bool {
-        let next = self.step(at.saturating_add(1));
+        let next = self.told.step(at.saturating_add(1));
         next.is_some_and(|next| next.line.preempting)
-    }
-
-    // Whether the step at a place, or an event of the local run after it, is in the cause.
-    fn is_in_cause(&self, at: usize) -> bool {
-        self.causes.step_marks().get(at).copied().unwrap_or(false)
     }
 
     // Whether a step has no row, as it comes after the first error and isn't in the cause.
     fn is_left_out(&self, at: usize) -> bool {
-        let failure = self.causes.failure();
+        let failure = self.told.causes.failure();
         let is_late = failure.is_some_and(|failure| failure.step.is_none_or(|step| at > step));
-        is_late && !self.is_in_cause(at) && self.layout.steps < usize::MAX
+        is_late && !self.told.is_step_in_cause(at) && self.layout.steps < usize::MAX
     }
 
     // Whether a step shares no row: it is in the cause, or threads change, or the layout has room.
     fn has_own_row(&self, at: usize) -> bool {
-        self.explanation.steps().len() <= self.layout.steps
-            || self.is_in_cause(at)
+        self.told.explanation.steps().len() <= self.layout.steps
+            || self.told.is_step_in_cause(at)
             || self.is_preempted_after(at)
             || self.thread_of_step(at.saturating_sub(1)) != self.thread_of_step(at)
     }
 
     fn put_header(&self, page: &mut Page) -> Written {
         let columns = &self.columns;
-        let (names, rules) = (String::new(self.alloc), String::new(self.alloc));
+        let (names, rules) = (String::new(self.told.alloc), String::new(self.told.alloc));
         let mut header = Header { names, rules };
         header.put_column(0, STEP - 1, "step")?;
         header.put_column(STEP, columns.margin.saturating_sub(STEP + GAP), "line")?;
-        for t in (0..self.source.program.threads()).take(columns.own) {
+        for t in (0..self.told.source.program.threads()).take(columns.own) {
             let (start, width) = (columns.start(t as usize), columns.width_of(t as usize));
-            let mut name = String::new(self.alloc);
-            put_truncated(&mut name, self.thread_name(t), width)?;
+            let mut name = String::new(self.told.alloc);
+            put_truncated(&mut name, self.told.thread_name(t), width)?;
             header.put_column(start, width, name.as_str())?;
         }
         if columns.is_shared {
@@ -152,10 +147,10 @@ impl TextWriter<'_> {
 
     // Writes a row for each thread that an assertion stopped before its first step.
     fn put_initial_stops(&self, page: &mut Page) -> Written {
-        for t in 0..self.source.program.threads() {
-            let start = self.explanation.starts().get(t as usize);
+        for t in 0..self.told.source.program.threads() {
+            let start = self.told.explanation.starts().get(t as usize);
             if start.is_some_and(|start| start.stop.is_some()) {
-                self.put_stop_row(page, String::from_str(self.alloc, "start")?, t)?;
+                self.put_stop_row(page, String::from_str(self.told.alloc, "start")?, t)?;
             }
         }
         Ok(())
@@ -168,17 +163,20 @@ impl TextWriter<'_> {
         from: usize,
         to: usize,
     ) -> Result<usize, AllocError> {
-        let steps = self.explanation.steps().get(from..to).unwrap_or(&[]);
+        let steps = self.told.explanation.steps().get(from..to).unwrap_or(&[]);
         let [first, .., _] = steps else {
             if from < to {
                 self.put_step_rows(page, from)?;
             }
             return Ok(steps.len());
         };
-        let (last, name) = (to.saturating_sub(1), self.thread_name(first.line.thread));
-        let mut row = format!(in self.alloc; "{from}-{last}")?;
+        let (last, name) = (
+            to.saturating_sub(1),
+            self.told.thread_name(first.line.thread),
+        );
+        let mut row = format!(in self.told.alloc; "{from}-{last}")?;
         pad_to(&mut row, self.columns.start(0))?;
-        let cell = format!(in self.alloc; ".. {} of {name} ..", Count(steps.len(), "step"))?;
+        let cell = format!(in self.told.alloc; ".. {} of {name} ..", Count(steps.len(), "step"))?;
         let room = self.columns.end().max(self.columns.width / 2);
         let room = room.saturating_sub(width_of(row.as_str()));
         put_truncated(&mut row, cell.as_str(), room)?;
@@ -189,15 +187,15 @@ impl TextWriter<'_> {
 
     // As text, each variable that one of these steps changes, with its value after the last step.
     fn changed_values(&self, steps: &[Step]) -> Result<String, AllocError> {
-        let mut changes = String::new(self.alloc);
-        for x in 0..self.source.program.variables() as usize {
+        let mut changes = String::new(self.told.alloc);
+        for x in 0..self.told.source.program.variables() as usize {
             let x = Object::Variable(x);
             let steps = steps.iter();
             let writes = steps.filter(|step| step.object == x && step.old != step.new);
             if let Some(step) = writes.last()
                 && let ObjectState::Value(value) = step.new
             {
-                let name = self.object_name(x);
+                let name = self.told.object_name(x);
                 push_entry(&mut changes, format_args!("{name} {value}"))?;
             }
         }
@@ -220,7 +218,7 @@ impl TextWriter<'_> {
         instruction: usize,
         action: &str,
     ) -> Written {
-        let line = line_cell(self.alloc, self.line(thread, instruction))?;
+        let line = line_cell(self.told.alloc, self.told.line(thread, instruction))?;
         let end = self.columns.margin.saturating_sub(GAP);
         pad_to(row, end.saturating_sub(width_of(line.as_str())))?;
         row.push_str(line.as_str())?;
@@ -234,11 +232,11 @@ impl TextWriter<'_> {
 
     // Adds a name, cut off to `room` columns, or the thread's number if another name begins alike.
     fn put_thread_label(&self, row: &mut String, thread: u8, room: usize) -> Written {
-        let name = self.thread_name(thread);
+        let name = self.told.thread_name(thread);
         let begun = name.as_bytes().get(..room.saturating_sub(2)).unwrap_or(&[]);
-        let begins_alike = |other: u8| self.thread_name(other).as_bytes().starts_with(begun);
+        let begins_alike = |other: u8| self.told.thread_name(other).as_bytes().starts_with(begun);
         let is_alike = |other: u8| other != thread && begins_alike(other);
-        if width_of(name) > room && (0..self.source.program.threads()).any(is_alike) {
+        if width_of(name) > room && (0..self.told.source.program.threads()).any(is_alike) {
             return write!(row, "{thread}: ");
         }
         put_truncated(row, name, room)?;
@@ -246,18 +244,18 @@ impl TextWriter<'_> {
     }
 
     fn put_step_rows(&self, page: &mut Page, at: usize) -> Written {
-        let Some(step) = self.step(at) else {
+        let Some(step) = self.told.step(at) else {
             return Ok(());
         };
         let thread = step.line.thread;
         let retakes = matches!(step.line.act, Act::Retake(_));
         let action = self.action_text(thread, step.instruction, retakes)?;
-        let mut row = format!(in self.alloc; "{at:>4}")?;
+        let mut row = format!(in self.told.alloc; "{at:>4}")?;
         self.put_action(&mut row, thread, step.instruction, action.as_str())?;
         self.put_changes(page, at, step)?;
         self.end_row(page, row.as_str())?;
         if step.line.stop == Some(Stop::Assert) {
-            self.put_stop_row(page, format!(in self.alloc; "{at:>4}")?, thread)?;
+            self.put_stop_row(page, format!(in self.told.alloc; "{at:>4}")?, thread)?;
         }
         if self.is_preempted_after(at) && !self.is_left_out(at.saturating_add(1)) {
             self.put_preemption_row(page, step)?;
@@ -274,18 +272,21 @@ impl TextWriter<'_> {
                 page.write("; ")?;
             }
             if setting.instruction != step.instruction {
-                let line = InLine(self.line(thread, setting.instruction));
+                let line = InLine(self.told.line(thread, setting.instruction));
                 write!(page, "{line}: ")?;
             }
-            let (name, value) = (self.local_name(thread, setting.local), setting.value);
+            let (name, value) = (self.told.local_name(thread, setting.local), setting.value);
             write!(page, "{name} = {value}")?;
             let is_of_step = setting.instruction == step.instruction;
             if is_of_step && matches!(step.line.act, Act::Load { .. }) {
-                write!(page, " from {}", self.object_name(step.object))?;
+                write!(page, " from {}", self.told.object_name(step.object))?;
             }
         }
         if let Some((writer, since)) = self.intervening_writer(at, step) {
-            let (name, x) = (self.thread_name(writer), self.object_name(step.object));
+            let (name, x) = (
+                self.told.thread_name(writer),
+                self.told.object_name(step.object),
+            );
             write!(page, "; {name} wrote {x} since step {since}")?;
         }
         Ok(())
@@ -293,17 +294,17 @@ impl TextWriter<'_> {
 
     // Writes what a step did to its object, or, after `FALSE:`, why it failed; nothing for a load.
     fn put_object_change(&self, page: &mut Page, step: &Step) -> Written {
-        let name = self.object_name(step.object);
+        let name = self.told.object_name(step.object);
         match (step.line.act, step.line.stop) {
             (Act::Unlock(m) | Act::Wait { mutex: m, .. }, Some(Stop::NotHeld)) => {
-                let thread = self.thread_name(step.line.thread);
-                let m = self.object_name(Object::Mutex(m));
+                let thread = self.told.thread_name(step.line.thread);
+                let m = self.told.object_name(Object::Mutex(m));
                 write!(page, "FALSE: {thread} doesn't own {m}")
             }
             (_, Some(Stop::SemFull)) => page.write("FALSE: its count can't rise"),
             (Act::Load { .. }, _) => Ok(()),
             (Act::Wait { mutex: m, .. }, _) => {
-                let m = self.object_name(Object::Mutex(m));
+                let m = self.told.object_name(Object::Mutex(m));
                 write!(page, "{m} is free; waits for {name}")
             }
             (Act::Signal(_) | Act::Broadcast(_), _) if step.woken.is_empty() => {
@@ -320,7 +321,7 @@ impl TextWriter<'_> {
     fn put_state_change(&self, page: &mut Page, name: &str, step: &Step) -> Written {
         match (step.old, step.new) {
             (_, ObjectState::Owner(Some(owner))) => {
-                write!(page, "{name} -> {}", self.thread_name(owner))
+                write!(page, "{name} -> {}", self.told.thread_name(owner))
             }
             (_, ObjectState::Owner(None)) => write!(page, "{name} is free"),
             (ObjectState::Value(old), ObjectState::Value(new)) if old == new => {
@@ -339,11 +340,11 @@ impl TextWriter<'_> {
     // Of a store in the cause: which other thread wrote the variable last since the thread used it
     // before, and the place of that use. `None` where there is none, and for other steps.
     fn intervening_writer(&self, at: usize, store: &Step) -> Option<(u8, usize)> {
-        if !self.is_in_cause(at) || !matches!(store.line.act, Act::Store { .. }) {
+        if !self.told.is_step_in_cause(at) || !matches!(store.line.act, Act::Store { .. }) {
             return None;
         }
         let (object, thread) = (store.object, store.line.thread);
-        let before = self.explanation.steps().get(..at)?;
+        let before = self.told.explanation.steps().get(..at)?;
         let own = |step: &Step| step.object == object && step.line.thread == thread;
         let since = before.iter().rposition(own)?;
         let between = before.iter().skip(since.saturating_add(1));
@@ -353,11 +354,11 @@ impl TextWriter<'_> {
 
     // Writes the row of an assertion that stopped a thread; `row` has its first column.
     fn put_stop_row(&self, page: &mut Page, mut row: String, thread: u8) -> Written {
-        let Some(standing) = self.explanation.thread_state(thread) else {
+        let Some(standing) = self.told.explanation.thread_state(thread) else {
             return Ok(());
         };
         self.put_action(&mut row, thread, standing.instruction, ASSERT)?;
-        let statement = self.source.instruction(thread, standing.instruction);
+        let statement = self.told.source.instruction(thread, standing.instruction);
         if let Some(Instruction::Assert(test)) = statement {
             put_assertion(page, standing, test)?;
         }
@@ -367,7 +368,7 @@ impl TextWriter<'_> {
     fn put_preemption_row(&self, page: &mut Page, step: &Step) -> Written {
         let thread = step.line.thread as usize;
         let (column, width) = (self.columns.start(thread), self.columns.width_of(thread));
-        let row = format!(in self.alloc; "{:column$}{:~<width$}", "", "")?;
+        let row = format!(in self.told.alloc; "{:column$}{:~<width$}", "", "")?;
         let site = self.site(step.line.thread, step.next);
         write!(page, "{} is interrupted before {site}", site.name)?;
         page.end_columns(row.as_str(), 0, column)
@@ -375,12 +376,12 @@ impl TextWriter<'_> {
 
     // In a deadlock, writes whether each thread with a column has ended or is blocked, and at what.
     fn put_end_rows(&self, page: &mut Page) -> Written {
-        if self.explanation.kind() != Some(Kind::Stuck) || self.columns.own == 0 {
+        if self.told.explanation.kind() != Some(Kind::Stuck) || self.columns.own == 0 {
             return Ok(());
         }
-        let mut row = " end".to_string(self.alloc)?;
-        let mut under = String::new(self.alloc);
-        for t in (0..self.source.program.threads()).take(self.columns.own) {
+        let mut row = " end".to_string(self.told.alloc)?;
+        let mut under = String::new(self.told.alloc);
+        for t in (0..self.told.source.program.threads()).take(self.columns.own) {
             self.put_end_cells(&mut row, &mut under, t)?;
         }
         page.put_unwrapped(row.as_str())?;
@@ -395,14 +396,14 @@ impl TextWriter<'_> {
         let start = self.columns.start(thread as usize);
         let width = self.columns.width_of(thread as usize);
         pad_to(row, start)?;
-        let Some(wait) = self.waits.get(thread) else {
+        let Some(wait) = self.told.waits.get(thread) else {
             return row.push_str("ended");
         };
-        let blocked = format!(in self.alloc; "BLOCKED at {}", self.line_at_end(thread))?;
+        let blocked = format!(in self.told.alloc; "BLOCKED at {}", self.line_at_end(thread))?;
         let is_long = blocked.len() > width.saturating_add(1);
         row.push_str(if is_long { "BLOCKED" } else { blocked.as_str() })?;
         pad_to(under, start)?;
-        let (all, own) = (self.waits.all(), self.columns.own);
+        let (all, own) = (self.told.waits.all(), self.columns.own);
         let next = all.iter().find(|next| next.thread > thread && (next.thread as usize) < own);
         let end = next.map_or(
             self.columns.width,

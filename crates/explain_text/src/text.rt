@@ -1,9 +1,9 @@
 //! The explanation of a schedule as text, and the names and places that its parts tell.
 
-use explain_cause::{Causes, Event, InTurns, Turns};
-use explain_lines::{Columns, FileLine, InLine, Marks, Page, Written};
-use explain_run::{Explanation, Object, Source, Statement, Step, name_text};
-use explain_waits::Waits;
+use explain_cause::{Event, InTurns};
+use explain_lines::{Columns, FileLine, InLine, Page, Written};
+use explain_run::{Object, Statement};
+use explain_told::Told;
 use guest_code::program::Instruction;
 use replay::schedule_text;
 use std::alloc::{AllocError, Global};
@@ -21,58 +21,23 @@ pub struct Layout {
     pub is_fewest: Option<bool>,
 }
 
-/// What writes the text of an explanation: the facts, their names, and the layout.
+/// What writes the text of an explanation: what is told, and the layout.
 #[derive(Drop)]
 pub struct TextWriter<'a> {
-    pub alloc: Global,
-    pub explanation: &'a Explanation,
-    pub source: &'a Source<'a>,
+    pub told: &'a Told<'a>,
     pub layout: Layout,
-    /// What happened in the run, and what of that is in the cause of how the run ended.
-    pub causes: Causes,
-    /// In which turns of loops the threads carried out their statements.
-    pub turns: Turns,
-    /// Which blocked threads there are, and which statements could end their waits.
-    pub waits: Waits,
-    /// Where the lines of the text come from.
-    pub marks: Marks,
     pub columns: Columns,
 }
 
 /// The explanation as text, with a table of the steps. Only the last line, the command that replays
 /// the schedule, may be wider than the layout says. Fails where memory runs out.
-pub fn explanation_text(
-    alloc: Global,
-    explanation: &Explanation,
-    source: &Source<'_>,
-    layout: Layout,
-) -> Result<Vec<u8>, AllocError> {
-    TextWriter::new(alloc, explanation, source, layout)?.text(true)
+pub fn explanation_text(told: &Told<'_>, layout: Layout) -> Result<Vec<u8>, AllocError> {
+    TextWriter::new(&*told, layout)?.text(true)
 }
 
 /// The explanation without the steps: how the schedule ends and why. Fails where memory runs out.
-pub fn why_text(
-    alloc: Global,
-    explanation: &Explanation,
-    source: &Source<'_>,
-    layout: Layout,
-) -> Result<Vec<u8>, AllocError> {
-    TextWriter::new(alloc, explanation, source, layout)?.text(false)
-}
-
-/// Which loops ran out of turns before a thread first stopped in an error, a line for each; empty
-/// where no thread stopped. Fails where memory runs out.
-pub fn run_out_lines(
-    alloc: Global,
-    explanation: &Explanation,
-    source: &Source<'_>,
-) -> Result<String, AllocError> {
-    let layout = Layout {
-        width: 0,
-        steps: 0,
-        is_fewest: None,
-    };
-    TextWriter::new(alloc, explanation, source, layout)?.run_out_lines()
+pub fn why_text(told: &Told<'_>, layout: Layout) -> Result<Vec<u8>, AllocError> {
+    TextWriter::new(&*told, layout)?.text(false)
 }
 
 /// A statement of a thread as a sentence tells it, with its line: `line 12: lock m`.
@@ -129,34 +94,22 @@ fn shell_quoted(alloc: Global, word: &str) -> Result<String, AllocError> {
 
 impl<'a> TextWriter<'a> {
     // A writer without columns is made first, since it is asked how wide they have to be.
-    fn new(
-        alloc: Global,
-        explanation: &'a Explanation,
-        source: &'a Source<'a>,
-        layout: Layout,
-    ) -> Result<TextWriter<'a>, AllocError> {
-        let causes = Causes::of(alloc, source.program, explanation)?;
+    fn new(told: &'a Told<'a>, layout: Layout) -> Result<TextWriter<'a>, AllocError> {
         let mut writer = TextWriter {
-            alloc,
-            explanation,
-            source,
+            told,
             layout,
-            turns: Turns::new(alloc, source, causes.events())?,
-            causes,
-            waits: Waits::new(alloc, source.program, explanation)?,
-            marks: Marks::new(alloc, source.text)?,
-            columns: Columns::new(alloc, layout.width, &[], 0)?,
+            columns: Columns::new(told.alloc, layout.width, &[], 0)?,
         };
         let (threads, line) = (writer.column_contents()?, writer.line_cell_width()?);
-        writer.columns = Columns::new(alloc, layout.width, threads.as_slice(), line)?;
+        writer.columns = Columns::new(told.alloc, layout.width, threads.as_slice(), line)?;
         Ok(writer)
     }
 
     fn text(&self, with_steps: bool) -> Result<Vec<u8>, AllocError> {
-        let mut page = Page::new(self.alloc, self.columns.width);
+        let mut page = Page::new(self.told.alloc, self.columns.width);
         self.put_head(&mut page)?;
         page.put_empty_line()?;
-        let steps = self.explanation.steps().len();
+        let steps = self.told.explanation.steps().len();
         let mut shown = steps;
         if with_steps {
             shown = self.put_table(&mut page)?;
@@ -173,83 +126,43 @@ impl<'a> TextWriter<'a> {
 
     // `-`, the schedule without steps, would stand for a spelling that isn't UTF-8, which none is.
     fn replay_command(&self) -> Result<String, AllocError> {
-        let ran = self.explanation.steps().len();
-        let schedule = self.explanation.schedule().get(..ran).unwrap_or(&[]);
-        let spelled = schedule_text(self.alloc, schedule)?;
+        let ran = self.told.explanation.steps().len();
+        let schedule = self.told.explanation.schedule().get(..ran).unwrap_or(&[]);
+        let spelled = schedule_text(self.told.alloc, schedule)?;
         let schedule = from_utf8(spelled.as_slice()).unwrap_or("-");
-        let file = shell_quoted(self.alloc, self.file_name())?;
-        format!(in self.alloc; "Replay: ctxbound replay {file} {schedule}")
-    }
-
-    /// The name of the guest's file; `?` where it isn't UTF-8.
-    pub fn file_name(&self) -> &'a str {
-        from_utf8(self.source.file).unwrap_or("?")
-    }
-
-    /// The name of the thread of this number; `?` where there is none.
-    pub fn thread_name(&self, thread: u8) -> &'a str {
-        name_text(self.source.thread_name(thread))
+        let file = shell_quoted(self.told.alloc, self.told.file_name())?;
+        format!(in self.told.alloc; "Replay: ctxbound replay {file} {schedule}")
     }
 
     /// The names of the threads of these numbers, separated by commas.
     pub fn thread_names(&self, threads: &[u8]) -> Result<String, AllocError> {
-        let mut names = String::new(self.alloc);
+        let mut names = String::new(self.told.alloc);
         for thread in threads {
-            push_entry(&mut names, self.thread_name(*thread))?;
+            push_entry(&mut names, self.told.thread_name(*thread))?;
         }
         Ok(names)
     }
 
-    /// The name of an object of the guest; `?` where there is no such object.
-    pub fn object_name(&self, object: Object) -> &'a str {
-        name_text(self.source.object_name(object))
-    }
-
-    /// The name of a local of a thread; `?` where there is no such local.
-    pub fn local_name(&self, thread: u8, local: usize) -> &'a str {
-        name_text(self.source.local_name(thread, local))
-    }
-
-    /// The step at a place in the schedule; `None` where no step ran there.
-    pub fn step(&self, at: usize) -> Option<&'a Step> {
-        self.explanation.steps().get(at)
-    }
-
-    /// The step, local statement or final block at a place of the run's events; `None` past them.
-    pub fn event(&self, at: usize) -> Option<Event> {
-        self.causes.events().get(at).copied()
-    }
-
-    /// The line of an instruction, in the file that a preprocessor's marks tell; line 0 if none is.
-    pub fn line(&self, thread: u8, instruction: usize) -> FileLine<'_> {
-        let line = self.source.line(thread, instruction);
-        self.marks.file_line(self.file_name(), line)
-    }
-
     /// The number of the instruction that a thread has come to at the end; 0 if there is no thread.
     pub fn instruction_at_end(&self, thread: u8) -> usize {
-        let standing = self.explanation.thread_state(thread);
+        let standing = self.told.explanation.thread_state(thread);
         standing.map_or(0, |standing| standing.instruction)
     }
 
     /// The line that a thread has come to at the end; line 0 if it ended or there is no thread.
     pub fn line_at_end(&self, thread: u8) -> FileLine<'_> {
-        self.line(thread, self.instruction_at_end(thread))
+        self.told.line(thread, self.instruction_at_end(thread))
     }
 
     /// The statement of an instruction of a thread, with the name of the thread and the line.
     pub fn site(&self, thread: u8, instruction: usize) -> Site<'_> {
         Site {
-            name: self.thread_name(thread),
+            name: self.told.thread_name(thread),
             line: InTurn {
-                line: InLine(self.line(thread, instruction)),
-                turns: self.turns.of(thread, instruction),
+                line: InLine(self.told.line(thread, instruction)),
+                turns: self.told.turns.of(thread, instruction),
             },
-            statement: Statement {
-                source: self.source,
-                thread,
-                instruction,
-            },
+            statement: self.told.statement(thread, instruction),
         }
     }
 
@@ -260,11 +173,11 @@ impl<'a> TextWriter<'a> {
 
     /// As text, the statement at instruction `at`; if a `wait` `retakes`, `retake` and its mutex.
     pub fn action_text(&self, thread: u8, at: usize, retakes: bool) -> Result<String, AllocError> {
-        match self.source.instruction(thread, at) {
+        match self.told.source.instruction(thread, at) {
             Some(Instruction::Wait { mutex: m, .. }) if retakes => {
-                format!(in self.alloc; "retake {}", self.object_name(Object::Mutex(m)))
+                format!(in self.told.alloc; "retake {}", self.told.object_name(Object::Mutex(m)))
             }
-            _ => self.site(thread, at).statement.to_string(self.alloc),
+            _ => self.site(thread, at).statement.to_string(self.told.alloc),
         }
     }
 }

@@ -15,10 +15,11 @@ use std::collections::{BTreeMap, BTreeSet};
 const INDENT: usize = 6;
 
 impl TextWriter<'_> {
-    /// Writes for each object that threads wait for, a mutex only if its owner ended, by which tests
-    /// they came to wait, what they would do if they were woken, and who could end the waits.
+    /// Writes for each object that threads wait for, a mutex only if its owner ended, what they would
+    /// do if they were woken, by which tests they came to wait, and what came of the statements that
+    /// could end the waits.
     pub fn put_unblocking(&self, page: &mut Page) -> Written {
-        let waits = self.waits.all();
+        let waits = self.told.waits.all();
         for (at, wait) in waits.iter().enumerate() {
             let object = wait.reason.object();
             let mut earlier = waits.iter().take(at);
@@ -29,7 +30,7 @@ impl TextWriter<'_> {
                 _ if is_new && self.is_given_up(wait) => "unlock",
                 _ => continue,
             };
-            let name = self.object_name(object);
+            let name = self.told.object_name(object);
             page.put_line(format_args!("Who could {verb} {name}"), 0)?;
             for waiter in waits.iter().skip(at) {
                 if waiter.reason == wait.reason {
@@ -44,8 +45,8 @@ impl TextWriter<'_> {
 
     // Writes what a thread would do if it were woken now; nothing if it loads nothing and goes on.
     fn put_look(&self, page: &mut Page, wait: &Wait) -> Written {
-        let mut seen = BTreeSet::new(self.alloc);
-        let mut values = String::new(self.alloc);
+        let mut seen = BTreeSet::new(self.told.alloc);
+        let mut values = String::new(self.told.alloc);
         for variable in &wait.look.variables {
             if seen.insert(*variable)? {
                 let value = self.present_value_text(wait.thread, *variable)?;
@@ -57,7 +58,7 @@ impl TextWriter<'_> {
             false if values.is_empty() => return Ok(()),
             false => "go on",
         };
-        let name = self.thread_name(wait.thread);
+        let name = self.told.thread_name(wait.thread);
         write!(page, "  {name} would {verb} if it were woken now")?;
         if !values.is_empty() {
             write!(page, ": {values}")?;
@@ -67,10 +68,10 @@ impl TextWriter<'_> {
 
     // As text, a variable's value at the end, and the one that a thread loaded last, if another.
     fn present_value_text(&self, thread: u8, variable: usize) -> Result<String, AllocError> {
-        let x = self.object_name(Object::Variable(variable));
-        let variables = self.explanation.variables();
+        let x = self.told.object_name(Object::Variable(variable));
+        let variables = self.told.explanation.variables();
         let now = variables.get(variable).copied().unwrap_or(0);
-        let steps = self.explanation.steps().iter().enumerate();
+        let steps = self.told.explanation.steps().iter().enumerate();
         let loads = steps.filter_map(|(at, step)| match step.line.act {
             Act::Load { variable: x, value } if x == variable && step.line.thread == thread => {
                 Some((at, value))
@@ -78,9 +79,11 @@ impl TextWriter<'_> {
             _ => None,
         });
         match loads.last() {
-            Some((_, value)) if value == now => format!(in self.alloc; "{x} is still {now}"),
-            Some((at, old)) => format!(in self.alloc; "{x} is {now}, and was {old} in step {at}"),
-            None => format!(in self.alloc; "{x} is {now}"),
+            Some((_, value)) if value == now => format!(in self.told.alloc; "{x} is still {now}"),
+            Some((at, old)) => format!(in self.told.alloc;
+                "{x} is {now}, and was {old} in step {at}"
+            ),
+            None => format!(in self.told.alloc; "{x} is {now}"),
         }
     }
 
@@ -88,7 +91,7 @@ impl TextWriter<'_> {
     fn put_unblocking_threads(&self, page: &mut Page, wait: &Wait) -> Written {
         let mut is_none = true;
         let mut is_one_ahead = false;
-        for thread in 0..self.source.program.threads() {
+        for thread in 0..self.told.source.program.threads() {
             let theirs = self.unblocking_statements(thread, wait)?;
             self.put_statement_fates(page, theirs.as_slice())?;
             is_none = is_none && theirs.is_empty();
@@ -105,11 +108,11 @@ impl TextWriter<'_> {
     // A thread's statements that could end this wait, taken from another thread's if there is one:
     // its own lists only those before the statement at which it waits.
     fn unblocking_statements(&self, thread: u8, wait: &Wait) -> Result<Vec<Statement>, AllocError> {
-        let mut others = self.waits.all().iter();
+        let mut others = self.told.waits.all().iter();
         let other = others.find(|other| other.reason == wait.reason && other.thread != thread);
         let statements = other.unwrap_or(wait).statements.iter().copied();
         let theirs = statements.filter(|statement| statement.thread == thread);
-        theirs.collect(self.alloc)
+        theirs.collect(self.told.alloc)
     }
 
     // Writes how often a thread took or jumped over statements that end a wait, and which is ahead.
@@ -133,10 +136,10 @@ impl TextWriter<'_> {
         &self,
         statements: &[Statement],
     ) -> Result<BTreeMap<usize, Statement>, AllocError> {
-        let mut jumps = BTreeMap::new(self.alloc);
+        let mut jumps = BTreeMap::new(self.told.alloc);
         for statement in statements {
             let (thread, instruction) = (statement.thread, statement.instruction);
-            if let Some(at) = self.causes.jump_over(thread, instruction) {
+            if let Some(at) = self.told.causes.jump_over(thread, instruction) {
                 jumps.entry(at)?.or_insert(*statement);
             }
         }
@@ -145,7 +148,7 @@ impl TextWriter<'_> {
 
     // Writes that a thread took `times` steps that could end a wait, the last one at place `at`.
     fn put_taken(&self, page: &mut Page, at: usize, times: usize) -> Written {
-        let Some(step) = self.step(at) else {
+        let Some(step) = self.told.step(at) else {
             return Ok(());
         };
         let site = self.site(step.line.thread, step.instruction);
@@ -176,8 +179,8 @@ impl TextWriter<'_> {
             _ => "has yet to come to",
         };
         write!(page, "  {} {verb} {}", site.name, site.line)?;
-        let standing = self.explanation.thread_state(thread);
-        if let Some(wait) = self.waits.get(thread) {
+        let standing = self.told.explanation.thread_state(thread);
+        if let Some(wait) = self.told.waits.get(thread) {
             write!(page, ", but is blocked {}", self.blocked_site(wait)?)?;
         } else if standing.is_some_and(|standing| standing.is_stopped()) {
             write!(page, ", but stopped at {}", self.line_at_end(thread))?;
@@ -195,7 +198,7 @@ impl TextWriter<'_> {
     ) -> Written {
         let site = self.site(passed.thread, passed.instruction);
         write!(page, "  {} passed by ", site.name)?;
-        match self.event(at).and_then(|event| event.step) {
+        match self.told.event(at).and_then(|event| event.step) {
             _ if times < 2 => write!(page, "{site}")?,
             Some(at) => write!(page, "{times} times, the last time in step {at} ({site})")?,
             None => write!(page, "{times} times, the last time at the start ({site})")?,
@@ -205,8 +208,8 @@ impl TextWriter<'_> {
                 page.write(",")?;
                 self.put_test(page, &event)?;
                 page.end_line(0, INDENT)?;
-                let told = &mut Vec::new(self.alloc);
-                return self.put_values(page, (at, expression), VALUE_LAYOUT, told);
+                let before = &mut BTreeSet::new(self.told.alloc);
+                return self.put_values(page, (at, expression), VALUE_LAYOUT, before);
             }
             let jump = self.event_site(&event);
             write!(page, ", by `{}` in {}", jump.statement, jump.line)?;
@@ -216,11 +219,18 @@ impl TextWriter<'_> {
 
     // What decided on the jump at place `at`: the innermost test round a `leave`, or else the jump.
     fn deciding_event(&self, at: usize) -> Option<(usize, Event)> {
-        let event = self.event(at)?;
+        let event = self.told.event(at)?;
         let Instruction::Skip(_) = event.statement else {
             return Some((at, event));
         };
-        let earlier = self.causes.events().iter().copied().enumerate().take(at);
+        let earlier = self
+            .told
+            .causes
+            .events()
+            .iter()
+            .copied()
+            .enumerate()
+            .take(at);
         let guard = earlier
             .filter(|(_, test)| test.thread == event.thread && is_guard_of(test, event.instruction))
             .last();

@@ -61,13 +61,15 @@ pub struct FileRun<'a> {
 impl Facts<'_> {
     // Where a statement begins in the text; `None` for the end of a thread's code.
     fn statement_start(&self, statement: Statement<'_>) -> Option<Pos> {
-        self.source.place(statement.thread, statement.instruction)
+        self.told
+            .source
+            .place(statement.thread, statement.instruction)
     }
 
     // Which line of a file a line of the text comes from, by a preprocessor's marks; `None` where
     // no mark before the line tells it.
     fn line_origin(&self, line: u32) -> Option<FilePlace<'_>> {
-        let origin = self.marks.origin(line)?;
+        let origin = self.told.marks.origin(line)?;
         Some(FilePlace {
             file: name_text(origin.file()),
             line: origin.line(),
@@ -78,9 +80,15 @@ impl Facts<'_> {
     /// run for each longest series of lines that come from consecutive lines of one file. `None`
     /// where the marks tell it of no line.
     pub fn file_runs(&self) -> Result<Option<Vec<FileRun<'_>>>, AllocError> {
-        let mut runs = Vec::new(self.alloc);
+        let mut runs = Vec::new(self.told.alloc);
         let mut due = None;
-        for (_, at) in self.source.text.split(|byte| *byte == b'\n').zip(1u32..) {
+        for (_, at) in self
+            .told
+            .source
+            .text
+            .split(|byte| *byte == b'\n')
+            .zip(1u32..)
+        {
             let origin = self.line_origin(at);
             if let Some(first) = origin
                 && origin != due
@@ -130,7 +138,11 @@ impl<S: Serializer> Writer<'_, S> {
     /// Writes the list `turns`, of each loop round a statement which turn it is in and `of` how many,
     /// the outer loop first; nothing where its thread didn't carry it out in a turn after the first.
     pub fn put_turns(&mut self, statement: Statement<'_>) {
-        let turns = self.facts.turns.of(statement.thread, statement.instruction);
+        let turns = self
+            .facts
+            .told
+            .turns
+            .of(statement.thread, statement.instruction);
         if turns.len() == 0 {
             return;
         }

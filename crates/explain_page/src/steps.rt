@@ -15,7 +15,7 @@ impl<S: Serializer> Writer<'_, S> {
             return;
         };
         self.begin_list("steps");
-        for (at, step) in facts.explanation.steps().iter().enumerate() {
+        for (at, step) in facts.told.explanation.steps().iter().enumerate() {
             self.allocated(objects.apply_step(facts, at, step));
             self.put_step(at, step, &objects);
         }
@@ -26,24 +26,21 @@ impl<S: Serializer> Writer<'_, S> {
     fn put_step(&mut self, at: usize, step: &Step, objects: &ObjectStates<'_>) {
         let facts = self.facts;
         let thread = step.line.thread;
-        let statement = facts.statement(thread, step.instruction);
+        let statement = facts.told.statement(thread, step.instruction);
         let held = step.held.iter().map(|m| Object::Mutex(*m));
-        let held = held.map(|mutex| facts.object_name(mutex));
+        let held = held.map(|mutex| facts.told.object_name(mutex));
         self.token(Token::Object);
         self.put("act", act_word(step.line.act));
         self.put_states_after(step, objects);
-        self.put(
-            "cause",
-            facts.causes.step_marks().get(at).copied() == Some(true),
-        );
+        self.put("cause", facts.told.is_step_in_cause(at));
         self.put_extent(statement);
-        self.put_allocated("held", held.collect::<Vec<&str>>(facts.alloc));
+        self.put_allocated("held", held.collect::<Vec<&str>>(facts.told.alloc));
         self.put_line_number(statement);
         self.put_some("mutex", facts.wait_mutex_name(step));
-        self.put("name", facts.thread_name(thread));
+        self.put("name", facts.told.thread_name(thread));
         self.put_object_state("new", step.new);
         self.put_next_statement(thread, step.next);
-        self.put("object", facts.object_name(step.object));
+        self.put("object", facts.told.object_name(step.object));
         self.put_object_state("old", step.old);
         self.put("preempting", step.line.preempting);
         self.put_assignments(thread, step.assignments.as_slice());
@@ -58,7 +55,7 @@ impl<S: Serializer> Writer<'_, S> {
     // Writes the object `after`: the states after a step of its object and of a `wait`'s mutex, by
     // rising name. No two objects share a name: each is in only one of the four maps of `objects`.
     fn put_states_after(&mut self, step: &Step, objects: &ObjectStates<'_>) {
-        let touched = Some(self.facts.object_name(step.object));
+        let touched = Some(self.facts.told.object_name(step.object));
         let beside = self.facts.wait_mutex_name(step);
         let names = [touched.min(beside), touched.max(beside)];
         self.begin_object("after");
@@ -75,12 +72,12 @@ impl<S: Serializer> Writer<'_, S> {
     // Writes a key and an object's state as its value: a variable's value, the owner of a mutex or
     // null, how many threads wait for a condition, or a semaphore's count.
     fn put_object_state(&mut self, key: &str, state: ObjectState) {
-        let facts = self.facts;
+        let told = self.facts.told;
         match state {
             ObjectState::Value(value) => self.put(key, value),
             ObjectState::Owner(owner) => self.put(
                 key,
-                owner.map(|thread| facts.thread_name(thread)),
+                owner.map(|thread| told.thread_name(thread)),
             ),
             ObjectState::Waiting(count) => self.put(key, count),
             ObjectState::Count(count) => self.put(key, count),
@@ -90,31 +87,31 @@ impl<S: Serializer> Writer<'_, S> {
     /// Writes `next`: the statement that a thread has come to, with the mutex or the semaphore that
     /// a `lock` or an `acquire` there `wants`, or null at the end of the thread's code.
     pub fn put_next_statement(&mut self, thread: u8, instruction: usize) {
-        let facts = self.facts;
+        let told = self.facts.told;
         self.key("next");
-        let wanted = match facts.source.instruction(thread, instruction) {
+        let wanted = match told.source.instruction(thread, instruction) {
             Some(Instruction::Lock(m)) => Some(Object::Mutex(m)),
             Some(Instruction::Acquire(k)) => Some(Object::Semaphore(k)),
             Some(_) => None,
             None => return self.token(Token::Null),
         };
-        let statement = facts.statement(thread, instruction);
+        let statement = told.statement(thread, instruction);
         self.token(Token::Object);
         self.put_place(statement);
         self.put_text("text", statement);
-        self.put_some("wants", wanted.map(|object| facts.object_name(object)));
+        self.put_some("wants", wanted.map(|object| told.object_name(object)));
         self.token(Token::ObjectEnd);
     }
 
     /// Writes the list `sets`: the locals that a thread set, in the order in which it did, each
     /// with its value and the statement that set it.
     pub fn put_assignments(&mut self, thread: u8, assignments: &[Assignment]) {
-        let facts = self.facts;
+        let told = self.facts.told;
         self.begin_list("sets");
         for assignment in assignments {
             self.token(Token::Object);
-            self.put_place(facts.statement(thread, assignment.instruction));
-            self.put("local", facts.local_name(thread, assignment.local));
+            self.put_place(told.statement(thread, assignment.instruction));
+            self.put("local", told.local_name(thread, assignment.local));
             self.put("value", assignment.value);
             self.token(Token::ObjectEnd);
         }

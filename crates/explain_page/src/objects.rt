@@ -41,7 +41,7 @@ impl<'a> ObjectStates<'a> {
     /// The states of the objects after the last step that ran.
     pub fn at_end(facts: &'a Facts<'_>) -> Result<ObjectStates<'a>, AllocError> {
         let mut objects = ObjectStates::initial(facts)?;
-        for (at, step) in facts.explanation.steps().iter().enumerate() {
+        for (at, step) in facts.told.explanation.steps().iter().enumerate() {
             objects.apply_step(facts, at, step)?;
         }
         Ok(objects)
@@ -58,13 +58,13 @@ impl<'a> ObjectStates<'a> {
         if step.old == step.new {
             return Ok(());
         }
-        let name = facts.object_name(step.object);
+        let name = facts.told.object_name(step.object);
         match step.new {
             ObjectState::Value(value) => drop(self.variables.insert(name, value)?),
             ObjectState::Count(count) => drop(self.semaphores.insert(name, count)?),
             ObjectState::Owner(owner) => {
                 let owner = owner.map(|thread| MutexOwner {
-                    holder: facts.thread_name(thread),
+                    holder: facts.told.thread_name(thread),
                     since: at,
                 });
                 drop(self.mutexes.insert(name, owner)?);
@@ -78,11 +78,11 @@ impl<'a> ObjectStates<'a> {
     // mutex without an owner; a `signal` or `broadcast` removes the threads that it woke. Where no
     // condition has the name of the step's object, nothing is changed.
     fn apply_queue_step(&mut self, facts: &'a Facts<'_>, step: &Step) -> Result<(), AllocError> {
-        let Some(queue) = self.conditions.get_mut(facts.object_name(step.object)) else {
+        let Some(queue) = self.conditions.get_mut(facts.told.object_name(step.object)) else {
             return Ok(());
         };
         if let Some(mutex) = facts.wait_mutex_name(step) {
-            queue.push(facts.thread_name(step.line.thread))?;
+            queue.push(facts.told.thread_name(step.line.thread))?;
             self.mutexes.insert(mutex, None)?;
         } else {
             let woken = facts.thread_names(step.woken.as_slice())?;
@@ -94,9 +94,9 @@ impl<'a> ObjectStates<'a> {
 
 // By the name of each condition, who waits for it before the first step: nobody.
 fn empty_queues<'a>(facts: &'a Facts<'_>) -> Result<ByName<'a, Vec<&'a str>>, AllocError> {
-    let mut queues = ByName::new(facts.alloc);
+    let mut queues = ByName::new(facts.told.alloc);
     for name in facts.condition_names()? {
-        queues.insert(name, Vec::new(facts.alloc))?;
+        queues.insert(name, Vec::new(facts.told.alloc))?;
     }
     Ok(queues)
 }
@@ -105,7 +105,7 @@ fn empty_queues<'a>(facts: &'a Facts<'_>) -> Result<ByName<'a, Vec<&'a str>>, Al
 fn initial_owners<'a>(
     facts: &'a Facts<'_>,
 ) -> Result<ByName<'a, Option<MutexOwner<'a>>>, AllocError> {
-    let mut owners = ByName::new(facts.alloc);
+    let mut owners = ByName::new(facts.told.alloc);
     for name in facts.mutex_names()? {
         owners.insert(name, None)?;
     }
@@ -114,11 +114,11 @@ fn initial_owners<'a>(
 
 // By the name of each semaphore, its count before the first step.
 fn initial_counts<'a>(facts: &'a Facts<'_>) -> Result<ByName<'a, u16>, AllocError> {
-    let program = facts.source.program;
-    let mut counts = ByName::new(facts.alloc);
+    let program = facts.told.source.program;
+    let mut counts = ByName::new(facts.told.alloc);
     for k in 0..program.semaphores() as usize {
         counts.insert(
-            facts.object_name(Object::Semaphore(k)),
+            facts.told.object_name(Object::Semaphore(k)),
             program.initial_count(k),
         )?;
     }
@@ -127,11 +127,11 @@ fn initial_counts<'a>(facts: &'a Facts<'_>) -> Result<ByName<'a, u16>, AllocErro
 
 // By the name of each variable, its value before the first step.
 fn initial_values<'a>(facts: &'a Facts<'_>) -> Result<ByName<'a, i64>, AllocError> {
-    let program = facts.source.program;
-    let mut values = ByName::new(facts.alloc);
+    let program = facts.told.source.program;
+    let mut values = ByName::new(facts.told.alloc);
     for x in 0..program.variables() as usize {
         values.insert(
-            facts.object_name(Object::Variable(x)),
+            facts.told.object_name(Object::Variable(x)),
             program.initial_value(x),
         )?;
     }

@@ -126,18 +126,21 @@ impl<S: Serializer> Writer<'_, S> {
         self.put_allocated("circles", facts.circle_thread_names());
         self.put_allocated("end", ObjectStates::at_end(facts));
         self.put_failures();
-        self.put("file", name_text(facts.source.file));
-        self.put("kind", facts.explanation.kind().map(kind_word));
+        self.put("file", facts.told.file_name());
+        self.put("kind", facts.told.explanation.kind().map(kind_word));
         if facts.why.is_some() {
             let marks = self.allocated(facts.file_runs());
             self.put_some("marks", marks.flatten());
         }
         self.put_initial_state();
-        self.put("preemptions", facts.explanation.preemptions());
-        self.put("refused", facts.explanation.refused());
+        self.put("preemptions", facts.told.explanation.preemptions());
+        self.put("refused", facts.told.explanation.refused());
         self.put_allocated("schedule", facts.printed_schedule());
         self.put("search", &facts.search);
-        self.put_some("source", facts.why.map(|_| name_text(facts.source.text)));
+        self.put_some(
+            "source",
+            facts.why.map(|_| name_text(facts.told.source.text)),
+        );
         self.put_steps();
         self.put_tests();
         self.put_threads();
@@ -150,7 +153,7 @@ impl<S: Serializer> Writer<'_, S> {
     // semaphores and values of variables, and the threads.
     fn put_initial_state(&mut self) {
         let facts = self.facts;
-        let variables = facts.source.program.variables();
+        let variables = facts.told.source.program.variables();
         let Some(objects) = self.allocated(ObjectStates::initial(facts)) else {
             return;
         };
@@ -167,11 +170,11 @@ impl<S: Serializer> Writer<'_, S> {
     // Writes the list `threads` of the initial state: of each thread the statement that it has come
     // to, the locals that it set before that, and why it stopped there, if it did.
     fn put_initial_threads(&mut self) {
-        let facts = self.facts;
+        let told = self.facts.told;
         self.begin_list("threads");
-        for (start, thread) in facts.explanation.starts().iter().zip(0u8..) {
+        for (start, thread) in told.explanation.starts().iter().zip(0u8..) {
             self.token(Token::Object);
-            self.put("name", facts.thread_name(thread));
+            self.put("name", told.thread_name(thread));
             self.put_next_statement(thread, start.next);
             self.put_assignments(thread, start.assignments.as_slice());
             self.put("stop", start.stop.map(stop_reason_word));

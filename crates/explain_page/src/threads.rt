@@ -26,22 +26,22 @@ impl Facts<'_> {
     // The values of a thread's locals in a state of the thread, by name: of as many locals as the
     // program has for the thread, so none where it has no such thread.
     fn local_values(&self, thread: u8, state: &ThreadState) -> Result<ByName<'_, i64>, AllocError> {
-        let count = if thread < self.source.program.threads() {
-            self.source.program.locals(thread)
+        let count = if thread < self.told.source.program.threads() {
+            self.told.source.program.locals(thread)
         } else {
             0
         };
         let values = state.locals.iter().take(count).enumerate();
-        let locals = values.map(|(local, value)| (self.local_name(thread, local), *value));
-        locals.collect(self.alloc)
+        let locals = values.map(|(local, value)| (self.told.local_name(thread, local), *value));
+        locals.collect(self.told.alloc)
     }
 
     // The names of the variables of these numbers, in the same order.
     fn variable_names(&self, variables: &[usize]) -> Result<Vec<&str>, AllocError> {
         let names = variables
             .iter()
-            .map(|x| self.object_name(Object::Variable(*x)));
-        names.collect(self.alloc)
+            .map(|x| self.told.object_name(Object::Variable(*x)));
+        names.collect(self.told.alloc)
     }
 
     // The statements that could end a wait, by thread, line and column. A statement in a `repeat`
@@ -51,16 +51,20 @@ impl Facts<'_> {
         &self,
         wait: &Wait,
     ) -> Result<BTreeMap<(u8, u32, u32), UnblockingStatement<'_>>, AllocError> {
-        let mut found = BTreeMap::new(self.alloc);
+        let mut found = BTreeMap::new(self.told.alloc);
         for statement in &wait.statements {
-            if let Some(place) = self.source.place(statement.thread, statement.instruction) {
+            if let Some(place) = self
+                .told
+                .source
+                .place(statement.thread, statement.instruction)
+            {
                 let known = found.entry((statement.thread, place.line, place.col))?;
                 let entry = known.or_insert(UnblockingStatement {
-                    statement: self.statement(statement.thread, statement.instruction),
+                    statement: self.told.statement(statement.thread, statement.instruction),
                     ahead: false,
                     perhaps: false,
-                    passed: BTreeSet::new(self.alloc),
-                    taken: Vec::new(self.alloc),
+                    passed: BTreeSet::new(self.told.alloc),
+                    taken: Vec::new(self.told.alloc),
                 });
                 match statement.fate {
                     Fate::Taken(step) => entry.taken.push(step)?,
@@ -68,7 +72,7 @@ impl Facts<'_> {
                     Fate::Perhaps => entry.perhaps = true,
                     Fate::OutOfReach => {
                         let (thread, at) = (statement.thread, statement.instruction);
-                        entry.passed.extend(self.causes.jump_over(thread, at))?;
+                        entry.passed.extend(self.told.causes.jump_over(thread, at))?;
                     }
                 }
             }
@@ -82,13 +86,13 @@ impl<S: Serializer> Writer<'_, S> {
     pub fn put_threads(&mut self) {
         let facts = self.facts;
         self.begin_list("threads");
-        for (state, thread) in facts.explanation.thread_states().iter().zip(0u8..) {
+        for (state, thread) in facts.told.explanation.thread_states().iter().zip(0u8..) {
             self.token(Token::Object);
-            self.put_place(facts.statement(thread, state.instruction));
+            self.put_place(facts.told.statement(thread, state.instruction));
             self.put_allocated("locals", facts.local_values(thread, state));
-            self.put("name", facts.thread_name(thread));
+            self.put("name", facts.told.thread_name(thread));
             self.put("status", thread_status_word(state));
-            self.put_wait(facts.waits.get(thread));
+            self.put_wait(facts.told.waits.get(thread));
             self.token(Token::ObjectEnd);
         }
         self.token(Token::ListEnd);
@@ -104,7 +108,7 @@ impl<S: Serializer> Writer<'_, S> {
             return self.token(Token::Null);
         };
         let mutex = wait.reason.mutex();
-        let holder = mutex.and_then(|m| facts.explanation.holder(m));
+        let holder = mutex.and_then(|m| facts.told.explanation.holder(m));
         self.token(Token::Object);
         self.put("act", wait_reason_word(wait.reason));
         let look = match wait.reason {
@@ -112,11 +116,11 @@ impl<S: Serializer> Writer<'_, S> {
             _ => None,
         };
         self.put_some("again", look.map(|look| look.sleeps));
-        self.put_some("holder", holder.map(|h| facts.thread_name(h.thread)));
+        self.put_some("holder", holder.map(|h| facts.told.thread_name(h.thread)));
         if let Some(look) = look {
             self.put_allocated("loads", facts.variable_names(look.variables.as_slice()));
         }
-        self.put("object", facts.object_name(wait.reason.object()));
+        self.put("object", facts.told.object_name(wait.reason.object()));
         self.put_allocated("on", facts.thread_names_in(wait.on));
         self.put_some("since", holder.map(|holder| holder.since));
         self.put_unblocking_statements(wait);
@@ -137,7 +141,7 @@ impl<S: Serializer> Writer<'_, S> {
                 false => self.put("ahead", found.ahead),
             }
             self.put_place(found.statement);
-            self.put("name", facts.thread_name(found.statement.thread));
+            self.put("name", facts.told.thread_name(found.statement.thread));
             self.put_passing_steps(&found.passed);
             self.put("taken", &found.taken);
             self.put_text("text", found.statement);
@@ -149,13 +153,13 @@ impl<S: Serializer> Writer<'_, S> {
     // Writes the list `passed`: of these jumps, which are places in the run, the steps to which
     // they belong.
     fn put_passing_steps(&mut self, jumps: &BTreeSet<usize>) {
-        let events = self.facts.causes.events();
+        let events = self.facts.told.causes.events();
         let steps = jumps
             .iter()
             .map(|at| events.get(*at).and_then(|event| event.step));
         self.put_allocated(
             "passed",
-            steps.collect::<Vec<Option<usize>>>(self.facts.alloc),
+            steps.collect::<Vec<Option<usize>>>(self.facts.told.alloc),
         )
     }
 }
