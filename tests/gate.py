@@ -81,10 +81,10 @@ class Gate:
 
     def part(self, name, words):
         """Runs a part and answers its closing line; where it fails, the gate ends."""
-        return self.rest(name, begin(words))
+        return self.follow(name, begin(words))
 
-    def rest(self, name, begun):
-        """The same of a part that has begun."""
+    def follow(self, name, begun):
+        """Passes on the lines of a part that has begun, and answers its closing line; where it fails, the gate ends."""
         self.say("== " + name)
         closing = None
         for line in begun.stdout:
@@ -131,7 +131,7 @@ def main():
     shutil.copyfile(ROOT / "crates/ctxbound/out/ctxbound", ROOT / PROGRAM)
     (ROOT / PROGRAM).chmod(0o755)
     print(gate.part("shown commands", [sys.executable, "tests/docs.py", PROGRAM]), flush=True)
-    print(gate.rest("shown commands, nothing proved", unproved), flush=True)
+    print(gate.follow("shown commands, nothing proved", unproved), flush=True)
     for name, words in TRIED.items():
         closing = gate.part(name, words)
         if closing:

@@ -67,10 +67,11 @@ window.addEventListener("load", () => {
     if (step.top < box.top || step.bottom > box.bottom || step.left < box.left || step.right > box.right
       || number.left < box.left) unseen.push(k);
   }
+  const clicked = all("#edge text").map((e) => { e.dispatchEvent(new Event("click")); return Number(slider.value); });
   const text = (id) => document.getElementById(id).textContent, search = document.getElementById("search");
   const shown = { states: seen, title: text("title"), scripts: document.scripts.length,
     images: document.images.length, broken: window.broken === undefined ? 0 : 1, hidden: search.hidden,
-    beside: beside, unseen: unseen, keys: keys, wide: wide, opened: opened, summary: text("summary"),
+    beside: beside, unseen: unseen, clicked: clicked, keys: keys, wide: wide, opened: opened, summary: text("summary"),
     why: all("#why p").map((p) => p.textContent), links: all("#why a").map((a) => [a.textContent, a.hash]),
     rows: all("#lanes .step").map((e) => e.id), command: text("command"), waits: document.getElementById("waits").hidden, nodes: all("#graph .node").map((e) => e.textContent),
     edges: all("#graph .edge").length, circles: all("#graph .edge.circle").length, label: all("#graph svg").map((e) =>
@@ -270,7 +271,8 @@ def faults(tester, browser, path, search):
     line, *paragraphs = words_of(path, text)
     command = text.rstrip("\n").split("\n")[-1].removeprefix("Replay: ")
     want = {"title": str(path), "scripts": 3, "images": 0, "broken": 0, "hidden": not schedule, "counts": counts,
-            "ends": rows, "beside": [beside(told)[k] for k in places], "unseen": [], "wide": 0, "summary": line,
+            "ends": rows, "beside": [beside(told)[k] for k in places], "unseen": [],
+            "clicked": list(range(1, last + 1)), "wide": 0, "summary": line,
             "opened": last if ran == len(told["steps"]) else ran, "why": paragraphs, "command": command,
             "links": list(links(told, shown_steps, paragraphs)), **graph(told), "numbers": list(numbers(told)),
             "place": place(told, shown_steps, got.pop("labels")),
