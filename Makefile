@@ -203,6 +203,7 @@ shown:
 	python3 tests/parts.py "$(PROGRAM)"
 	python3 tests/machines.py "$(PROGRAM)"
 	python3 tests/page.py "$(PROGRAM)"
+	python3 tests/symmetry.py "$(PROGRAM)"
 	python3 tests/around.py "$(PROGRAM)"
 	@test ! -x crates/tests_tools/out/tests_tools || python3 tests/rounds.py "$(PROGRAM)" crates/tests_tools/out/tests_tools
 	"$(PROGRAM)" suite examples

@@ -38,6 +38,7 @@ TRIED = {
     "pages": [sys.executable, "tests/page.py", PROGRAM],
     "the examples as a suite": [PROGRAM, "suite", "examples"],
     "programs made at random": [sys.executable, "tests/reference.py", PROGRAM],
+    "equal threads once": [sys.executable, "tests/symmetry.py", PROGRAM],
     "what workers do": [sys.executable, "tests/rounds.py", PROGRAM, TOOLS],
     "what stands around the program": [sys.executable, "tests/around.py", PROGRAM],
 }

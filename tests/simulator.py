@@ -183,6 +183,21 @@ def laid_out(block):
     return code
 
 
+def instructions_of(block):
+    """The instructions of a block, with the locals by number, in the order of their first use."""
+    names = list(dict.fromkeys(locals_of(block)))
+    number = lambda word: ("local", names.index(word)) if word in names else word
+    told = {"o": lambda part: part, "l": number, "v": number, "e": lambda part: tuple(map(number, part))}
+    return [(word, skip, [told[form](part) for form, part in zip(PARTS.get(statement.word, "e"), statement.parts)])
+            for statement, word, skip in laid_out(block)]
+
+
+def has_equal_threads(guest):
+    """Whether two threads have the same instructions."""
+    codes = [instructions_of(block) for _, block in guest.threads]
+    return any(code in codes[:at] for at, code in enumerate(codes))
+
+
 def turns_in(block, outer=()):
     """Of each instruction of a block the turns that it is in, each with how many its loop has, the outer loop first;
     a loop with one turn doesn't count."""
@@ -1457,7 +1472,7 @@ def fields(value, at="", named=False):
 # The objects whose keys are names of a guest.
 NAMED = ("variables", "semaphores", "conditions", "mutexes", "locals", "after")
 # What is alike in each explanation.
-ALIKE = (".search.cause",)
+ALIKE = (".search.cause", ".search.symmetry")
 
 
 def places(value, path=()):
@@ -1521,10 +1536,11 @@ class Explanations(Tester):
         self.told.update(phrase for phrase in PHRASES if any(phrase in line for line in head + said.reasons()))
 
     def searched(self, name, text, words):
-        """A schedule that a search finds, with the report of that search: as far as a bound says; else up to the greatest
-        one, and where that leaves it open, without one."""
+        """A schedule that a search finds, with the report of that search, with equal threads once where there may be some: as
+        far as a bound says; else up to the greatest one, and where that leaves it open, without one."""
+        once = ["--symmetry"] if has_equal_threads(Guest(text)) else []
         is_open = lambda report: not report.get("schedule") and not report.get("all")
-        reported = lambda *command: json.loads(self.run(*command, name, *words, cwd=ROOT).out)
+        reported = lambda *command: json.loads(self.run(*command, name, *once, *words, cwd=ROOT).out)
         report = reported("explore") if words[0] == "--bound" else reported("explore", "--bound", "64")
         if words[0] == "--limit" and is_open(report):
             far = reported("unbounded")

@@ -8,8 +8,8 @@ _ctxbound() {
         return
     fi
     case $command in
-    explore) words='--bound --workers --limit --quick --trace --progress --under --help' ;;
-    unbounded) words='--workers --limit --quick --trace --progress --under --help' ;;
+    explore) words='--bound --workers --limit --quick --symmetry --trace --progress --under --help' ;;
+    unbounded) words='--workers --limit --quick --symmetry --trace --progress --under --help' ;;
     replay) words='--help' ;;
     explain) words='--bound --workers --limit --quick --progress --unbounded --steps --all --width --html --json --help' ;;
     check) words='--strict --short --json --deep --remarks --limit --help' ;;

@@ -4,7 +4,7 @@ use Rattle.semantics_schedules.specs.Schedules.{preemptions}
 use Rattle.walk_items.specs.Items.{ItemView, IsItem, item_sum}
 use Rattle.walk_items.specs.Walks.{WalkView, IsWalked, IsSplit, IsWithin, listed_if}
 use Rattle.walk_items.specs.declared.{limits.TheConstants.BOUND, mode.Mode.Mode}
-use Rattle.walk_items.specs.declared.mode.Mode.TheVariants.{Bounded, Reduced}
+use Rattle.walk_items.specs.declared.mode.Mode.TheVariants.{Bounded, Reduced, BoundedOnce, ReducedOnce}
 use Rattle.walk_items.proofs.Listed.{listed_none}
 use Rattle.walk_items.proofs.Splits.{split_open, split_further, split_next, split_closed}
 use Rattle.book.specs.Books.{BookView, IsBook, Keeps, KeepsWhere, with_deferred, IsWalkOf, IsOpenAt}
@@ -45,9 +45,14 @@ raises_split b book none low = go b.mode book.within book.split low
         IsBook (raised (record b { mode = mode }))
     go (Bounded bound) fits h l = record {
       within = let few : preemptions b.of.program b.of.prefix ≤ bound = fits in omega (arith, few);
-      split = split_next bound b.of b.finished b.open_items b.deferred fits none h;
+      split = split_next false bound b.of b.finished b.open_items b.deferred fits none h;
     }
     go Reduced fits h l = absurd (omega (arith, l))
+    go (BoundedOnce bound) fits h l = record {
+      within = let few : preemptions b.of.program b.of.prefix ≤ bound = fits in omega (arith, few);
+      split = split_next true bound b.of b.finished b.open_items b.deferred fits none h;
+    }
+    go ReducedOnce fits h l = absurd (omega (arith, l))
 
 pub raises : (b : BookView) → Keeps b → b.lists ≡ true → b.dropped ≡ false → b.open_items ≡ [] →
     bound_of b.mode < BOUND → Keeps (raised b)

@@ -6,7 +6,7 @@ use Rattle.semantics_schedules.specs.{Order.precedes, Schedules.begins_with}
 use Rattle.walk_items.specs.Items.{ItemView, root_of, schedules_of}
 use Rattle.walk_items.specs.Walks.{WalkView, IsSplit, IsWalked, IsWithin, items_at, listed_if}
 use Rattle.walk_items.specs.declared.{limits.TheConstants.BOUND, mode.Mode.Mode}
-use Rattle.walk_items.specs.declared.mode.Mode.TheVariants.{Bounded, Reduced}
+use Rattle.walk_items.specs.declared.mode.Mode.TheVariants.{Bounded, Reduced, BoundedOnce, ReducedOnce}
 use Rattle.walk_summary.specs.Summaries.{SummaryView, nothing, join, with_beyond}
 use Rattle.walk.specs.declared.found.Found.{Found}
 use Rattle.book.specs.{ItemLists.{ListView, all_of}, declared.errors.RaiseError.RaiseError}
@@ -240,11 +240,20 @@ IsRefused b w OutOfMemory = IsWalkOf b w × ((place : ℕ) × IsOpenAt b w.item 
 abbrev pub bound_of : Mode → ℕ
 bound_of (Bounded bound) = bound
 bound_of Reduced = BOUND
+bound_of (BoundedOnce bound) = bound
+bound_of ReducedOnce = BOUND
+
+-- the mode at the next bound, of one that has a bound
+abbrev pub next_mode : Mode → Mode
+next_mode (Bounded bound) = Bounded (bound + 1)
+next_mode Reduced = Reduced
+next_mode (BoundedOnce bound) = BoundedOnce (bound + 1)
+next_mode ReducedOnce = ReducedOnce
 
 -- the book at the next bound
 abbrev pub raised : BookView → BookView
 raised b = record b {
-  mode = Bounded (bound_of b.mode + 1);
+  mode = next_mode b.mode;
   finished = with_beyond b.finished false;
   open_items = b.deferred;
   deferred = [];

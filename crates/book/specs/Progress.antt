@@ -1,6 +1,6 @@
 -- How far a search is, of the book that it has after a round.
 use Rattle.std.specs.Prelude.{◌≡◌, ℕ, ◌+◌, Option, Some, None, length}
-use Rattle.walk_items.specs.declared.mode.Mode.{Mode, TheVariants.{Bounded, Reduced}}
+use Rattle.walk_items.specs.declared.mode.Mode.{Mode, TheVariants.{Bounded, Reduced, BoundedOnce, ReducedOnce}}
 use Rattle.walk_summary.specs.Summaries.{cut}
 use Rattle.book.specs.{Books.BookView, declared.progress.Progress.Progress}
 
@@ -8,6 +8,8 @@ use Rattle.book.specs.{Books.BookView, declared.progress.Progress.Progress}
 abbrev pub mode_bound : Mode → Option ℕ
 mode_bound (Bounded bound) = Some bound
 mode_bound Reduced = None
+mode_bound (BoundedOnce bound) = Some bound
+mode_bound ReducedOnce = None
 
 -- the book's bound, and how many schedules are counted in it, how many of them are bad, and how many
 -- items are open and wait for the next bound, and whether these are listed

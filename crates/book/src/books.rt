@@ -1,11 +1,13 @@
 //! The book of a search: what is finished, which items are open, and which are deferred.
 
-ghost use Rattle.std.specs.Prelude.{true, false, None, count_by, ◌≡◌, ◌<◌, ◌≤◌, ◌+◌, ◌-◌, ◌↔◌, [], length, drop, is_ok, if◌then◌else◌, IfOk, OnOk, IfErr, OnErr, Ok, IfSome, IfNone, IsTrue, slice_get, Some, All};
+ghost use Rattle.std.specs.Prelude.{true, false, None, count_by, ◌≡◌, ◌<◌, ◌≤◌, ◌+◌, ◌-◌, ◌↔◌, [], length, drop, is_ok, if◌then◌else◌};
+ghost use Rattle.std.specs.Prelude.{IfOk, OnOk, IfErr, OnErr, Ok, IfSome, IfNone, IsTrue, slice_get, Some, All};
 ghost use Rattle.std.specs.Arc.{arc_value};
 ghost use Rattle.walk_items.specs.Items.{whole, root_of, item_sum, AreOf};
 ghost use Rattle.walk_items.specs.{Walks.{IsWithin, listed_if}, declared.limits.TheConstants.BOUND};
-ghost use Rattle.walk_items.specs.declared.mode.Mode.TheVariants.{Bounded};
-ghost use Rattle.book.specs.Books.{Keeps, drops, thinned, opening, opening_of, HasWalkedRound, HaveFound, HaveSettled, AreNotTaken, taken_in, remove_each, AreWithin, Settles, IsRefused, Raises, IsNotRaised, IsClosed, bound_of, made_last};
+ghost use Rattle.book.specs.Books.{Keeps, drops, thinned, opening, opening_of, HasWalkedRound, HaveFound};
+ghost use Rattle.book.specs.Books.{HaveSettled, AreNotTaken, taken_in, remove_each, AreWithin, Settles, IsRefused};
+ghost use Rattle.book.specs.Books.{Raises, IsNotRaised, IsClosed, bound_of, next_mode, made_last};
 ghost use Rattle.book.specs.declared.limits.TheConstants.{ROUND};
 ghost use Rattle.walk_summary.specs.Summaries.{IsBoundedBy};
 
@@ -524,8 +526,7 @@ fn same_modes(first: Mode, second: Mode) -> bool
 
 // The mode at the next bound. `None` where the bound is the greatest, or the mode has none.
 fn next_mode(mode: Mode) -> Option<Mode>
-    ensures some { IfSome result (λ m.
-        (bound_of mode < BOUND) × (m ≡ Bounded (bound_of mode + 1))) }
+    ensures some { IfSome result (λ m. (bound_of mode < BOUND) × (m ≡ next_mode mode)) }
     ensures none { IfNone result (BOUND ≤ bound_of mode) }
 {
     match mode {
@@ -536,7 +537,15 @@ fn next_mode(mode: Mode) -> Option<Mode>
                 None
             }
         }
+        Mode::BoundedOnce(bound) => {
+            if bound < BOUND {
+                Some(Mode::BoundedOnce(bound + 1))
+            } else {
+                None
+            }
+        }
         Mode::Reduced => None,
+        Mode::ReducedOnce => None,
     }
 }
 

@@ -29,7 +29,9 @@ pub fn mode_bound(mode: Mode) -> Option<u32>
 {
     match mode {
         Mode::Bounded(bound) => Some(bound),
+        Mode::BoundedOnce(bound) => Some(bound),
         Mode::Reduced => None,
+        Mode::ReducedOnce => None,
     }
 }
 

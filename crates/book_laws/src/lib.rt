@@ -2,13 +2,14 @@
 //! ensures; the functions do nothing.
 #![tactic(auto)]
 
-ghost use Rattle.std.specs.Prelude.{◌≡◌, ◌≤◌, ◌<◌, ℕ, [], false, true, List, Some, Contains, All, length, slice_index_or};
+ghost use Rattle.std.specs.Prelude.{◌≡◌, ◌≤◌, ◌<◌, ℕ, [], Bool, false, true, List, Some, Contains, All, length, slice_index_or};
 ghost use Rattle.semantics.specs.{Machine.start, View.is_bad};
 ghost use Rattle.semantics_schedules.specs.Schedules.{complete_schedules, begins_with, preemptions};
 ghost use Rattle.walk_items.specs.FullSums.{full_sum, full_sums};
-ghost use Rattle.walk_items.specs.Items.{ItemView, item_sum, item_sums, is_under};
+ghost use Rattle.walk_items.specs.Items.{ItemView, everything, item_sum, item_sums, is_under};
+ghost use Rattle.walk_items.specs.Once.{up_to, pruned};
 ghost use Rattle.walk_items.specs.Walks.{IsBelow, IsDeferred, clear_of};
-ghost use Rattle.walk_items.specs.declared.mode.Mode.TheVariants.{Bounded, Reduced};
+ghost use Rattle.walk_items.specs.declared.mode.Mode.TheVariants.{Bounded, BoundedOnce};
 ghost use Rattle.walk_summary.specs.Summaries.{sum_of, join, with_beyond, end_kind, IsBoundedBy};
 ghost use Rattle.book.specs.Books.{BookView, Keeps, KeepsWhere, IsBook, IsThinned, book_schedules, items_left, HasItsSchedules};
 ghost use Rattle.book.specs.declared.limits.TheConstants.{ROUND};
@@ -82,18 +83,18 @@ pub fn no_schedule_is_under_two_items()
         begins_with (slice_index_or (items_left b) j d).prefix v ≡ false }
 {}
 
-/// Of a book at a bound from which nothing was dropped: the sum of all complete schedules that
-/// begin with the prefix of the book's item, whatever their preemptions, is what is finished, its
-/// flag `beyond` aside, joined with those of the open and the deferred items. So no schedule was
-/// tried twice, whatever the bounds of the settled walks were.
+/// Of a book from which nothing was dropped: the sum of all schedules of its item, at a bound
+/// whatever their preemptions, is what is finished, its flag `beyond` aside, joined with those of the
+/// open and the deferred items. So no schedule was tried twice, whatever the bounds of the settled
+/// walks were.
 pub fn nothing_is_walked_twice()
-    ensures { (b : BookView) (bound : ℕ) → b.mode ≡ Bounded bound → IsBook b →
-        full_sum b.of ≡
-        join (with_beyond b.finished false) (full_sums (items_left b)) }
+    ensures { (b : BookView) → IsBook b → full_sum b.mode b.of ≡
+        join (with_beyond b.finished false) (full_sums b.mode (items_left b)) }
 {}
 
 /// Of a book at a bound from which nothing was dropped: each complete schedule past the bound that
-/// begins with the prefix of the book's item lies under an open or a deferred item. The open items
+/// begins with the prefix of the book's item lies under an open or a deferred item; with equal threads
+/// once, each of the item's schedules does. The open items
 /// are within the bound. The deferred ones lie under the book's item, and are past the bound by
 /// their last step alone.
 pub fn past_the_bound_is_open_or_deferred()
@@ -101,16 +102,19 @@ pub fn past_the_bound_is_open_or_deferred()
         Contains (complete_schedules b.of.program (start b.of.program)) v →
         begins_with b.of.prefix v ≡ true → bound < preemptions b.of.program v →
         is_under (items_left b) v ≡ true }
-    ensures within { (b : BookView) (bound : ℕ) → b.mode ≡ Bounded bound → IsBook b →
-        All (λ i. preemptions i.program i.prefix ≤ bound) b.open_items }
+    ensures once { (b : BookView) (bound : ℕ) (v : List ℕ) → b.mode ≡ BoundedOnce bound →
+        IsBook b → Contains (everything b.mode b.of) v → bound < preemptions b.of.program v →
+        is_under (items_left b) v ≡ true }
+    ensures within { (b : BookView) (once : Bool) (bound : ℕ) → b.mode ≡ up_to once bound →
+        IsBook b → All (λ i. preemptions i.program i.prefix ≤ bound) b.open_items }
     ensures below { (b : BookView) → IsBook b → All (IsBelow b.of) b.deferred }
-    ensures past { (b : BookView) (bound : ℕ) → b.mode ≡ Bounded bound → IsBook b →
-        All (IsDeferred bound) b.deferred }
+    ensures past { (b : BookView) (once : Bool) (bound : ℕ) → b.mode ≡ up_to once bound →
+        IsBook b → All (IsDeferred bound) b.deferred }
 {}
 
 /// Nothing is deferred in a book from which nothing was dropped and whose mode uses sleep sets.
 pub fn pruned_books_defer_nothing()
-    ensures { (b : BookView) → b.mode ≡ Reduced → IsBook b → b.deferred ≡ [] }
+    ensures { (b : BookView) (once : Bool) → b.mode ≡ pruned once → IsBook b → b.deferred ≡ [] }
 {}
 
 /// Of a quick book from which an item was dropped: what is finished joined with the sums of the

@@ -1,6 +1,6 @@
 //! What can be asked of one guest program.
 
-ghost use Rattle.std.specs.Prelude.{◌≡◌, ◌≤◌, false, IfOk, IfErr};
+ghost use Rattle.std.specs.Prelude.{◌≡◌, ◌≤◌, ◌<◌, false, length, IfOk, IfErr};
 ghost use Rattle.std.specs.Arc.{arc_value};
 ghost use Rattle.runner_report.specs.Promises.{IsReport, IsSearch};
 ghost use Rattle.runner_report.specs.declared.error.ExploreError.TheVariants.{OutOfMemory};
@@ -16,6 +16,38 @@ use std::sync::Arc;
 
 /// The bound of a search, in preemptions, where the command words give none.
 pub const DEFAULT_BOUND: u32 = 2;
+
+/// Whether two threads of a program have the same code, so that they may be equal. Where none have,
+/// a search with equal threads once tries what one without tries, and takes longer.
+pub fn has_equal_threads(program: &Program) -> bool {
+    for thread in 0..program.threads() {
+        if has_lower_equal(program, thread) {
+            return true;
+        }
+    }
+    false
+}
+
+/// What is said after the number of schedules that a search tried, by its report.
+pub fn once_words(report: &Report) -> &'static str {
+    if report.symmetry {
+        ", equal threads once"
+    } else {
+        ""
+    }
+}
+
+// Whether a thread of a lower number has the code of this one.
+fn has_lower_equal(program: &Program, thread: u8) -> bool
+    requires { thread < length program.now.threads }
+{
+    for lower in 0..thread {
+        if program.code(lower) == program.code(thread) {
+            return true;
+        }
+    }
+    false
+}
 
 /// What is asked of a guest program.
 #[derive(Drop)]

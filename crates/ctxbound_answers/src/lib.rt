@@ -27,7 +27,7 @@ mod request;
 mod serving;
 
 pub use answer::{Printed, answer_to, explore_text, replay_status, replay_text, verdict_status};
-pub use exploration::{DEFAULT_BOUND, Exploration, GuestRequest};
+pub use exploration::{DEFAULT_BOUND, Exploration, GuestRequest, has_equal_threads, once_words};
 pub use fault::{CommandFault, Fault, REFUSED};
 pub use host::Host;
 pub use limits::{DEFAULT_LIMIT, Limits};

@@ -65,7 +65,7 @@ is_followed Unbounded r = false
 
 -- the same search without a bound
 abbrev pub without_bound : Options → Options
-without_bound o = record { search = Unbounded; limit = o.limit; quota = o.quota; quick = o.quick }
+without_bound o = record o { search = Unbounded }
 
 -- of both reports the second is told, unless it leaves open what the first one does
 abbrev pub told_report : Report → Report → Report
@@ -77,9 +77,13 @@ IsTold p o false near report = report ≡ near
 IsTold p o true near report =
     (far : Report) × IsReport false p (without_bound o) far × (report ≡ told_report near far)
 
-abbrev pub IsSearched : Program → Options → Report → Type 0
-IsSearched p o report =
+abbrev pub IsSearchedBy : Program → Options → Report → Type 0
+IsSearchedBy p o report =
     (near : Report) × IsReport false p o near × IsTold p o (is_followed o.search near) near report
+
+-- with equal threads once or not
+abbrev pub IsSearched : Program → Options → Report → Type 0
+IsSearched p o report = (once : Bool) × IsSearchedBy p (record o { symmetry = once }) report
 
 -- the schedule that was asked for is explained, or where none was, the one that a search reports
 abbrev pub IsOf : Program → Options → Option (String Global) → Explained → Type 0

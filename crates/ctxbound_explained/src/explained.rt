@@ -8,7 +8,8 @@ ghost use Rattle.runner_report.specs.declared.error.ExploreError.TheVariants.{Ou
 ghost use Rattle.ctxbound_explained.specs.Explained.{ExplainMeans, ExplainFaultMeans, IsExplained, IsOfReport, asked, explained_status, told_status, IsSearched, is_followed, is_open, told_report};
 
 use ctxbound_answers::{
-    ExplainRequest, Exploration, Fault, Host, Printed, REFUSED, replay_status, verdict_status,
+    ExplainRequest, Exploration, Fault, Host, Printed, REFUSED, has_equal_threads, once_words,
+    replay_status, verdict_status,
 };
 use explain_run::{Explanation, Source, name_text};
 use explain_text::{Layout, explanation_text, run_out_lines};
@@ -200,9 +201,9 @@ impl Explained {
     }
 }
 
-// The report of a search for a bad schedule. Where that goes up to the greatest bound and leaves it
-// open whether a schedule is bad, the same search is made without a bound, and its report is the
-// answer unless it leaves that open, too.
+// The report of a search for a bad schedule, with equal threads once where there may be some. Where
+// that goes up to the greatest bound and leaves it open whether a schedule is bad, the same search
+// is made without a bound, and its report is the answer unless it leaves that open, too.
 #[tactic(auto, using(crate::proofs::Searched::alone, crate::proofs::Searched::followed))]
 fn search_report<H: Host>(
     rt: &H,
@@ -212,14 +213,23 @@ fn search_report<H: Host>(
     ensures report { IfOk result (IsSearched (arc_value program.now) search.options) }
     ensures error { IfErr result (λ e. e ≡ OutOfMemory) }
 {
-    let near = search.report(rt, program)?;
-    if !is_followed(search.options.search, &near) {
+    let options = Options {
+        symmetry: has_equal_threads(program),
+        ..search.options
+    };
+    let bounded = Exploration {
+        options,
+        workers: search.workers,
+        progress: search.progress,
+    };
+    let near = bounded.report(rt, program)?;
+    if !is_followed(options.search, &near) {
         return Ok(near);
     }
     let unbounded = Exploration {
         options: Options {
             search: Search::Unbounded,
-            ..search.options
+            ..options
         },
         workers: search.workers,
         progress: search.progress,
@@ -279,11 +289,12 @@ pub fn has_fewest_preemptions(report: &Report) -> bool {
 /// memory runs out.
 pub fn no_schedule_text(alloc: Global, file: &str, report: &Report) -> Result<String, AllocError> {
     let tried = report.summary.tried();
+    let once = once_words(report);
     match (&report.verdict, report.bound) {
         (Verdict::Clean { all: false }, Some(bound)) => {
             let ending = if bound == 1 { "" } else { "s" };
             format!(in alloc;
-                "{file}: no schedule with at most {bound} preemption{ending} is bad ({tried} tried).\n{NO_PROOF}\n"
+                "{file}: no schedule with at most {bound} preemption{ending} is bad ({tried} tried{once}).\n{NO_PROOF}\n"
             )
         }
         (
@@ -296,12 +307,12 @@ pub fn no_schedule_text(alloc: Global, file: &str, report: &Report) -> Result<St
             let ending = if *bound == 1 { "" } else { "s" };
             format!(in alloc;
                 "{file}: no schedule with at most {bound} preemption{ending} is bad; the search of \
-                 others was cut short, and none that it tried is bad ({tried} tried).\n"
+                 others was cut short, and none that it tried is bad ({tried} tried{once}).\n"
             )
         }
         (Verdict::Incomplete { .. }, _) => format!(in alloc;
-            "{file}: the search was cut short; no schedule that it tried is bad ({tried} tried).\n"
+            "{file}: the search was cut short; no schedule that it tried is bad ({tried} tried{once}).\n"
         ),
-        _ => format!(in alloc; "{file}: no schedule is bad ({tried} tried).\n"),
+        _ => format!(in alloc; "{file}: no schedule is bad ({tried} tried{once}).\n"),
     }
 }

@@ -37,7 +37,8 @@ names_few : (p : Program) (l : Limits) (bound : ℕ) (b : BadSchedule)
 names_few p l bound b n =
     let is = names_bad p (options_of (UpTo bound) l.limit) b n in
     let few : preemptions p b.steps.items ≤ bound =
-    named_has_few p (options_of (UpTo bound) l.limit) bound n.found.report n.of.report.1
+    named_has_few p (record (options_of (UpTo bound) l.limit) { symmetry = n.of.report.once }) bound
+    n.found.report n.of.report.is.2
     b.steps.items is.0 in
     let count : b.preemptions ≡ preemptions p b.steps.items = is.1.count in
     omega (arith, few, count)

@@ -13,7 +13,8 @@ use Rattle.ctxbound_suite.specs.declared.found.{BadSchedule.BadSchedule, Found.F
 
 -- a search as far as this that is cut short at the limit
 abbrev pub options_of : Search → ℕ → Options
-options_of s l = record { search = s; limit = Some l; quota = QUOTA; quick = false }
+options_of s l =
+    record { search = s; limit = Some l; quota = QUOTA; quick = false; symmetry = false }
 
 -- no complete schedule fails or gets stuck
 abbrev pub IsRight : Program → Type 0
@@ -63,9 +64,14 @@ abbrev pub IsRightUpTo : Program → Search → Type 0
 IsRightUpTo p (UpTo last) = NoBadBelow p (last + 1)
 IsRightUpTo p Unbounded = IsRight p
 
+-- the report of a search as these options say, with equal threads once or not
+pub record IsReportOf (p : Program) (o : Options) (r : Report) : Type 0 where
+  pub once : Bool
+  pub is : IsReport false p (record o { symmetry = once }) r
+
 -- the report of a search, the bad schedule that it names, and what both say of all schedules
 pub record IsFound (p : Program) (o : Options) (f : Found) : Type 0 where
-  pub report : IsReport false p o f.report
+  pub report : IsReportOf p o f.report
   pub bad : IsNamedBad p (named_schedule f.report) f.bad
   pub clear : NoBadBelow p (clean_below f.report)
   pub clean : is_clean f.report.verdict ≡ true → IsRightUpTo p o.search
@@ -74,7 +80,7 @@ pub record IsFound (p : Program) (o : Options) (f : Found) : Type 0 where
 -- a search was cut short and names no schedule
 pub record WasCut (p : Program) (o : Options) : Type 0 where
   pub report : Report
-  pub of : IsReport false p o report
+  pub of : IsReportOf p o report
   pub cut : is_cut_short report.verdict ≡ true
   pub unnamed : named_schedule report ≡ None
 

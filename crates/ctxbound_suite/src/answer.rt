@@ -10,7 +10,7 @@ ghost use Rattle.ctxbound_suite.specs.Answers.{AnswerMeans, IsAnswerOfText, answ
 ghost use Rattle.ctxbound_suite.specs.Shown.{options_of, IsFound, IsLeft};
 
 use crate::found::{BadSchedule, Found, run_search};
-use ctxbound_answers::{Host, Limits};
+use ctxbound_answers::{Host, Limits, once_words};
 use guest_code::program::Program;
 use runner::{ExploreError, Search, Verdict, program_of};
 use std::io::Write;
@@ -106,17 +106,18 @@ fn write_search_line<W: Write>(out: &mut W, search: Search, found: &Found) -> io
     }
     let Found { report, bad } = found;
     let tried = report.summary.tried();
+    let once = once_words(report);
     match (&report.verdict, bad) {
-        (Verdict::Clean { .. }, _) => writeln!(out, "none is bad ({tried} tried)")?,
+        (Verdict::Clean { .. }, _) => writeln!(out, "none is bad ({tried} tried{once})")?,
         (Verdict::Bad { preemptions, .. }, _) => {
             let count = Preemptions(*preemptions);
-            writeln!(out, "one with {count} is bad ({tried} tried)")?;
+            writeln!(out, "one with {count} is bad ({tried} tried{once})")?;
         }
         (Verdict::Incomplete { .. }, Some(_)) => {
-            writeln!(out, "cut short, and one of the {tried} tried is bad")?;
+            writeln!(out, "cut short, and one of the {tried} tried is bad{once}")?;
         }
         (Verdict::Incomplete { .. }, None) => {
-            writeln!(out, "cut short, and none of the {tried} tried is bad")?;
+            writeln!(out, "cut short, and none of the {tried} tried is bad{once}")?;
         }
     }
     out.flush()

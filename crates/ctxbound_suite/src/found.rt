@@ -7,7 +7,7 @@ ghost use Rattle.runner_report.specs.Reports.{IsBadSchedule};
 ghost use Rattle.runner_report.specs.declared.error.ExploreError.TheVariants.{OutOfMemory};
 ghost use Rattle.ctxbound_suite.specs.Shown.{options_of, clean_below, is_right, is_clean, IsNamedBad, IsFound};
 
-use ctxbound_answers::{Exploration, Host, Limits};
+use ctxbound_answers::{Exploration, Host, Limits, has_equal_threads};
 use guest_code::program::Program;
 use runner::{ExploreError, Options, QUOTA, Report, Search, Verdict, end_of};
 use semantics::view::Kind;
@@ -102,8 +102,9 @@ fn named_bad_schedule(
     }))
 }
 
-/// Searches a program as far as `search` says, by the workers of `limits`, and cuts the search
-/// short at the number of schedules in `limits`, whose bound isn't used.
+/// Searches a program as far as `search` says, with equal threads once where it may have some, by the
+/// workers of `limits`, and cuts the search short at the number of schedules in `limits`, whose bound
+/// isn't used.
 ///
 /// # Errors
 ///
@@ -125,6 +126,7 @@ pub fn run_search<H: Host>(
             limit: Some(limits.limit),
             quota: QUOTA,
             quick: false,
+            symmetry: has_equal_threads(program),
         },
         workers: limits.workers,
         progress: limits.progress,

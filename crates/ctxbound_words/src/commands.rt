@@ -106,13 +106,16 @@ const PROGRESS: Argument =
 const QUICK: Argument =
     argument!("quick" Long, Flag; "Once a bad schedule is found, leave out what comes after it");
 
+const SYMMETRY: Argument =
+    argument!("symmetry" Long, Flag; "Of threads that are equal where they are, let one step alone");
+
 const TRACE: Argument =
     argument!("trace" Long, Flag; "After the report, print the trace of the schedule that it names");
 
 // What it prints is parts of a search, for `join`: of all its schedules, and no trace.
 const UNDER: Argument = argument!("under" Long, Value("PREFIX");
     "Run the schedules that begin with this one, and print a line a bound for `join`";
-    without "quick" "trace");
+    without "quick" "symmetry" "trace");
 
 /// A command on guest programs.
 #[derive(Clone, Copy)]
@@ -138,12 +141,16 @@ const SUBCOMMANDS: [Subcommand; 9] = [
     Subcommand {
         name: "explore",
         about: "Runs a guest program under all schedules, those with fewest preemptions first",
-        arguments: &[FILE, WORKERS, LIMIT, PROGRESS, QUICK, BOUND, TRACE, UNDER],
+        arguments: &[
+            FILE, WORKERS, LIMIT, PROGRESS, QUICK, SYMMETRY, BOUND, TRACE, UNDER,
+        ],
     },
     Subcommand {
         name: "unbounded",
         about: "Runs a guest program under all schedules that sleep sets leave",
-        arguments: &[FILE, WORKERS, LIMIT, PROGRESS, QUICK, TRACE, UNDER],
+        arguments: &[
+            FILE, WORKERS, LIMIT, PROGRESS, QUICK, SYMMETRY, TRACE, UNDER,
+        ],
     },
     Subcommand {
         name: "replay",

@@ -121,6 +121,7 @@ impl CommandArguments<'_, '_> {
                 limit: self.limit(),
                 quota: QUOTA,
                 quick: self.flag("quick"),
+                symmetry: self.flag("symmetry"),
             },
             workers: self.workers(),
             progress: self.flag("progress"),

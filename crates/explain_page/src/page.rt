@@ -376,7 +376,8 @@ function showEnds() {
   if (search === null) return;
   byId("search").hidden = false;
   const within = search.bound === null ? "" : " with at most " + few(search.bound, "preemption");
-  byId("counts").textContent = few(search.tried, "schedule") + within + " tried: " + search.failed + " failed, "
+  byId("counts").textContent = few(search.tried, "schedule") + within + " tried"
+    + (search.symmetry ? ", equal threads once" : "") + ": " + search.failed + " failed, "
     + search.stuck + " stuck" + (search.quick ? ", others left out by a quick search" : "")
     + (search.verdict === "incomplete" ? ", then cut short" : "") + ".";
   const head = make("tr");

@@ -1,15 +1,18 @@
 -- What is known of a book that goes on to the next bound, and of the levels that are kept.
-use Rattle.std.proofs.Common.{◌≡◌, ◌∙◌, ℕ, ◌+◌, ◌<◌, ◌≤◌, Bool, true, false, ap, sym, inl, inr, List, [], ◌∷◌, ◌++◌, length, length-append, Option, Some, None, refl, subst, arith, Vec, Global}
+use Rattle.std.proofs.Common.{◌≡◌, ◌∙◌, ℕ, ◌+◌, ◌<◌, ◌≤◌, Bool, true, false, ap, sym, inl, inr, refl}
+use Rattle.std.proofs.Common.{subst, arith, List, [], ◌∷◌, ◌++◌, length, length-append, Option, Some, None}
+use Rattle.std.proofs.Common.{Vec, Global}
 use Rattle.std.proofs.lemmas.Bool.{cases_lt, Decides.nat_tests}
 use Rattle.guest_code.specs.Program.{Program}
 use Rattle.semantics_schedules.specs.Schedules.{preemptions}
-use Rattle.walk_items.specs.{Items.{root_of, ItemView, IsItem, item_sum}, Walks.IsWithin}
+use Rattle.walk_items.specs.{Items.{root_of, ItemView, IsItem, item_sum}, Once.up_to, Walks.IsWithin}
 use Rattle.walk_items.specs.declared.{limits.TheConstants.BOUND, mode.Mode.Mode}
 use Rattle.walk_items.specs.declared.mode.Mode.TheVariants.{Bounded, Reduced}
+use Rattle.walk_items.specs.declared.mode.Mode.TheVariants.{BoundedOnce, ReducedOnce}
 use Rattle.walk_items.proofs.WalkedItems.{past_none, past_beyond}
 use Rattle.walk_summary.specs.Summaries.{SummaryView, nothing, with_beyond, sum_of}
 use Rattle.walk_summary.proofs.SumsJoin.{sum_of_none}
-use Rattle.book.specs.Books.{BookView, Keeps, IsAtLastBound, Raises, bound_of, opening_of}
+use Rattle.book.specs.Books.{BookView, Keeps, IsAtLastBound, Raises, bound_of, next_mode, opening_of}
 use Rattle.book.proofs.BoundedSums.{closed_sum, clean_kept_all}
 use Rattle.runner_report.specs.{Promises.IsSearch, declared.level.Level.Level}
 use Rattle.runner_report.specs.declared.options.{Options.Options, Search.Search}
@@ -22,42 +25,58 @@ use Rattle.runner.specs.declared.judge.Ending.TheVariants.{Whole, Cut}
 use Rattle.runner.specs.inner.Judging.{IsAt, AreKept, HasKept, level_at, begun, lists_at}
 use Rattle.runner.specs.inner.Judging.{bounds_left, first_mode, IsCourse, HasEnded, Ends}
 
+below : (last bound : ℕ) → bound ≤ last → (bound ≡ last → ⊥) → bound < last
+below last bound le ne = omega (arith, le, ne)
+
 -- another bound follows the mode
 abbrev pub HasNext : Search → Mode → Type 0
 HasNext (UpTo last) (Bounded bound) = bound < last
+HasNext (UpTo last) (BoundedOnce bound) = bound < last
 HasNext (UpTo last) Reduced = ⊥
+HasNext (UpTo last) ReducedOnce = ⊥
 HasNext Unbounded mode = ⊥
 
-pub has_next : (search : Search) (mode : Mode) (sum : SummaryView) → IsModeOf search mode
-    → GoesOn search mode sum → HasNext search mode
-has_next (UpTo last) (Bounded bound) sum of on =
-    let le : bound ≤ last = of in
-    let ne : bound ≡ last → ⊥ = on.more in omega (arith, le, ne)
-has_next (UpTo last) Reduced sum of on = absurd of
-has_next Unbounded (Bounded bound) sum of on = absurd of
-has_next Unbounded Reduced sum of on = absurd (on.more tt)
+pub has_next : (once : Bool) (search : Search) (mode : Mode) (sum : SummaryView)
+    → IsModeOf once search mode → GoesOn search mode sum → HasNext search mode
+has_next once (UpTo last) (Bounded bound) sum of on = below last bound of.1 on.more
+has_next once (UpTo last) (BoundedOnce bound) sum of on = below last bound of.1 on.more
+has_next once (UpTo last) Reduced sum of on = absurd of
+has_next once (UpTo last) ReducedOnce sum of on = absurd of
+has_next once Unbounded (Bounded bound) sum of on = absurd of
+has_next once Unbounded (BoundedOnce bound) sum of on = absurd of
+has_next once Unbounded Reduced sum of on = absurd (on.more tt)
+has_next once Unbounded ReducedOnce sum of on = absurd (on.more tt)
 
 next_listed : (search : Search) (mode : Mode) → HasNext search mode → lists_at search mode ≡ true
 next_listed (UpTo last) (Bounded bound) h = let l : bound < last = h in grind (arith, nat_tests, l)
+next_listed (UpTo last) (BoundedOnce bound) h =
+    let l : bound < last = h in grind (arith, nat_tests, l)
 next_listed (UpTo last) Reduced h = absurd h
+next_listed (UpTo last) ReducedOnce h = absurd h
 next_listed Unbounded mode h = absurd h
 
 next_low : (search : Search) (mode : Mode) → HasNext search mode → IsSearch search
     → BOUND ≤ bound_of mode → ⊥
 next_low (UpTo last) (Bounded bound) h known high = omega (arith, h, known, high)
+next_low (UpTo last) (BoundedOnce bound) h known high = omega (arith, h, known, high)
 next_low (UpTo last) Reduced h known high = absurd h
+next_low (UpTo last) ReducedOnce h known high = absurd h
 next_low Unbounded mode h known high = absurd h
 
-next_of : (search : Search) (mode : Mode) → HasNext search mode
-    → IsModeOf search (Bounded (bound_of mode + 1))
-next_of (UpTo last) (Bounded bound) h = omega (arith, h)
-next_of (UpTo last) Reduced h = absurd h
-next_of Unbounded mode h = absurd h
+next_of : (once : Bool) (search : Search) (mode : Mode) → IsModeOf once search mode
+    → HasNext search mode → IsModeOf once search (next_mode mode)
+next_of once (UpTo last) (Bounded bound) of h = (of.0, omega (arith, h))
+next_of once (UpTo last) (BoundedOnce bound) of h = (of.0, omega (arith, h))
+next_of once (UpTo last) Reduced of h = absurd h
+next_of once (UpTo last) ReducedOnce of h = absurd h
+next_of once Unbounded mode of h = absurd h
 
 pub next_less : (search : Search) (mode : Mode) → HasNext search mode
-    → bounds_left search (Bounded (bound_of mode + 1)) < bounds_left search mode
+    → bounds_left search (next_mode mode) < bounds_left search mode
 next_less (UpTo last) (Bounded bound) h = omega (arith, h)
+next_less (UpTo last) (BoundedOnce bound) h = omega (arith, h)
 next_less (UpTo last) Reduced h = absurd h
+next_less (UpTo last) ReducedOnce h = absurd h
 next_less Unbounded mode h = absurd h
 
 -- a book may be raised whose search goes on
@@ -75,23 +94,31 @@ whole_here b search keeps closed on =
 
 -- and the bound is passed
 
-passed_here : (i : ItemView) (search : Search) (bound : ℕ) (sum : SummaryView)
-    → sum ≡ item_sum (Bounded bound) i → GoesOn search (Bounded bound) sum → IsPassed i bound
-passed_here i search bound sum is on = record {
+passed_here : (once : Bool) (i : ItemView) (search : Search) (bound : ℕ) (sum : SummaryView)
+    → sum ≡ item_sum (up_to once bound) i → GoesOn search (up_to once bound) sum
+    → IsPassed once i bound
+passed_here once i search bound sum is on = record {
   none = ap (λ (t : SummaryView). t.first_bad) (sym is) ∙ on.none;
   beyond = ap (λ (t : SummaryView). t.beyond) (sym is) ∙ on.beyond;
 }
 
+one_more_passed : (once : Bool) (i : ItemView) (bound : ℕ)
+    → ((b : ℕ) → b < bound → IsPassed once i b) → IsPassed once i bound
+    → (b : ℕ) → b < bound + 1 → IsPassed once i b
+one_more_passed once i bound below here b l = elim (cases_lt b bound) [
+  | inl lower ↦ below b lower
+  | inr le ↦ subst (IsPassed once i) (omega (arith, l, le)) here
+]
+
 next_passed : (i : ItemView) (search : Search) (mode : Mode) (sum : SummaryView)
     → HasNext search mode → sum ≡ item_sum mode i → GoesOn search mode sum → HasPassed i mode
-    → HasPassed i (Bounded (bound_of mode + 1))
+    → HasPassed i (next_mode mode)
 next_passed i (UpTo last) (Bounded bound) sum h is on below =
-    λ b l. elim (cases_lt b bound) [
-      | inl lower ↦ below b lower
-      | inr le ↦ subst (IsPassed i) (omega (arith, l, le))
-          (passed_here i (UpTo last) bound sum is on)
-    ]
+    one_more_passed false i bound below (passed_here false i (UpTo last) bound sum is on)
+next_passed i (UpTo last) (BoundedOnce bound) sum h is on below =
+    one_more_passed true i bound below (passed_here true i (UpTo last) bound sum is on)
 next_passed i (UpTo last) Reduced sum h is on below = absurd h
+next_passed i (UpTo last) ReducedOnce sum h is on below = absurd h
 next_passed i Unbounded mode sum h is on below = absurd h
 
 -- the book at the next bound
@@ -102,13 +129,13 @@ raised_at old new b o keeps at closed on raises is =
     subst (λ (x : BookView). IsAt old.of o x)
     (sym (is ∙ ap (begun o.search) raises.book)) (record {
       is = record { of = refl; mode = refl; quick = at.is.quick; lists = refl };
-      of = next_of o.search old.mode next;
+      of = next_of o.symmetry o.search old.mode at.of next;
       passed = next_passed old.of o.search old.mode old.finished next
           (whole_here old o.search keeps closed on) on at.passed;
     })
   where
     next : HasNext o.search old.mode
-    next = has_next o.search old.mode old.finished at.of on
+    next = has_next o.symmetry o.search old.mode old.finished at.of on
 
 -- the levels of the bounds below, and one more
 
@@ -133,26 +160,28 @@ one_more_below i bound ls l below more =
 
 next_below : (i : ItemView) (search : Search) (mode : Mode) (sum : SummaryView) (ls : List Level)
     → HasNext search mode → sum ≡ item_sum mode i → GoesOn search mode sum → AreBelow i mode ls
-    → AreBelow i (Bounded (bound_of mode + 1)) (ls ++ level_at mode sum None ∷ [])
+    → AreBelow i (next_mode mode) (ls ++ level_at mode sum None ∷ [])
 next_below i (UpTo last) (Bounded bound) sum ls h is on below =
     one_more_below i bound ls (level_at (Bounded bound) sum None) below (record {
       at = refl;
       summary = is;
       cause = refl;
-      passed = passed_here i (UpTo last) bound sum is on;
+      passed = passed_here false i (UpTo last) bound sum is on;
     })
+next_below i (UpTo last) (BoundedOnce bound) sum ls h is on below = absurd below
 next_below i (UpTo last) Reduced sum ls h is on below = absurd h
+next_below i (UpTo last) ReducedOnce sum ls h is on below = absurd h
 next_below i Unbounded mode sum ls h is on below = absurd h
 
 pub level_kept : (keeps : Bool) (b : BookView) (o : Options)
     (old new : Option (Vec Level Global)) → Keeps b → IsAt b.of o b → b.open_items ≡ []
     → GoesOn o.search b.mode b.finished → HasKept b old new → AreKept keeps b.of b.mode old
-    → AreKept keeps b.of (Bounded (bound_of b.mode + 1)) new
+    → AreKept keeps b.of (next_mode b.mode) new
 level_kept keeps b o (Some old) (Some new) book at closed on kept levels = (
   levels.0,
-  subst (AreBelow b.of (Bounded (bound_of b.mode + 1))) (sym kept)
+  subst (AreBelow b.of (next_mode b.mode)) (sym kept)
       (next_below b.of o.search b.mode b.finished old.items
-      (has_next o.search b.mode b.finished at.of on) (whole_here b o.search book closed on) on
+      (has_next o.symmetry o.search b.mode b.finished at.of on) (whole_here b o.search book closed on) on
       levels.1),
 )
 level_kept keeps b o None None book at closed on kept levels = levels
@@ -164,12 +193,12 @@ level_kept keeps b o None (Some new) book at closed on kept levels = absurd kept
 past_sum : (i : ItemView) (bound : ℕ) → IsItem i → bound < preemptions i.program i.prefix
     → item_sum (Bounded bound) i ≡ with_beyond nothing true
 past_sum i bound h past =
-    (λ k. with_beyond (sum_of i.program (past_none i bound h past k))
-    (past_beyond i bound h past k))
+    (λ k. with_beyond (sum_of i.program (past_none false i bound h past k))
+    (past_beyond false i bound h past k))
     ∙ ap (λ (t : SummaryView). with_beyond t true) (sum_of_none i.program)
 
 pub past_passed : (i : ItemView) (bound : ℕ) → IsItem i → bound < preemptions i.program i.prefix
-    → IsPassed i bound
+    → IsPassed false i bound
 past_passed i bound h past =
     let is = past_sum i bound h past in
     record {
@@ -190,26 +219,31 @@ past_level i bound l h past is = record {
 
 -- where a search begins
 
-pub first_of : (search : Search) → IsModeOf search (first_mode search 0)
-first_of (UpTo last) = omega arith
-first_of Unbounded = tt
+pub first_of : (once : Bool) (search : Search) → IsModeOf once search (first_mode once search 0)
+first_of false (UpTo last) = (refl, omega arith)
+first_of true (UpTo last) = (refl, omega arith)
+first_of false Unbounded = refl
+first_of true Unbounded = refl
 
-pub none_passed : (i : ItemView) (search : Search) → HasPassed i (first_mode search 0)
-none_passed i (UpTo last) = λ b l. absurd (omega (arith, l))
-none_passed i Unbounded = tt
+pub none_passed : (once : Bool) (i : ItemView) (search : Search)
+    → HasPassed i (first_mode once search 0)
+none_passed false i (UpTo last) = λ b l. absurd (omega (arith, l))
+none_passed true i (UpTo last) = λ b l. absurd (omega (arith, l))
+none_passed false i Unbounded = tt
+none_passed true i Unbounded = tt
 
 pub first_within : (i : ItemView) (search : Search) (k : ℕ) → k ≡ preemptions i.program i.prefix
-    → IsWithin (first_mode search k) i
+    → IsWithin (first_mode false search k) i
 first_within i (UpTo last) k is = omega (arith, is)
 first_within i Unbounded k is = tt
 
 pub first_passed : (i : ItemView) (search : Search) (k : ℕ) → IsItem i
-    → k ≡ preemptions i.program i.prefix → HasPassed i (first_mode search k)
+    → k ≡ preemptions i.program i.prefix → HasPassed i (first_mode false search k)
 first_passed i (UpTo last) k h is = λ b l. past_passed i b h (omega (arith, is, l))
 first_passed i Unbounded k h is = tt
 
 pub opened_at : (i : ItemView) (o : Options) (mode : Mode) (old b : BookView)
-    → old ≡ opening_of i mode o.quick → IsModeOf o.search mode → HasPassed i mode
+    → old ≡ opening_of i mode o.quick → IsModeOf o.symmetry o.search mode → HasPassed i mode
     → b ≡ begun o.search old → IsAt i o b
 opened_at i o mode old b opened of passed is =
     subst (λ (x : BookView). IsAt i o x) (sym (is ∙ ap (begun o.search) opened)) (record {
@@ -270,6 +304,6 @@ ends_weaker stopped may o b Whole h ends = ends
 ends_weaker stopped may o b (Cut Limit) h ends = ends
 ends_weaker stopped may o b (Cut Stopped) h ends = (h ends.0, ends.1)
 
--- the same options, and not quick
-abbrev pub unquick : Options → Options
-unquick o = record o { quick = false }
+-- the same options, but not quick, and with all threads
+abbrev pub plainly : Options → Options
+plainly o = record o { quick = false; symmetry = false }

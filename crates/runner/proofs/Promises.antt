@@ -11,11 +11,18 @@ use Rattle.semantics_schedules.specs.Schedules.{complete_schedules, state_after,
 use Rattle.semantics_schedules.proofs.LeastSchedule.{least_none, least_some}
 use Rattle.semantics_schedules.proofs.SchedulesUnderPrefix.{in_under, in_within, beyond_is, complete_is}
 use Rattle.semantics_schedules.proofs.StatedLaws.{complete}
-use Rattle.walk_items.specs.{Items.whole, declared.mode.Mode.TheVariants.Bounded}
+use Rattle.walk_items.specs.{Items.whole, Once.{up_to, SaysTheSame}}
+use Rattle.walk_items.{specs.declared.mode.Mode.TheVariants.Bounded, proofs.Once.says_the_same}
 use Rattle.walk_summary.specs.Summaries.{SummaryView, sum_of, end_kind}
 use Rattle.runner_report.specs.Reports.{IsBadSchedule, NoBadBelow, SomeExceeds, IsBad, IsClean}
-use Rattle.runner_report.specs.Reports.{IsFinished, IsSummaryOf}
-use Rattle.runner.specs.inner.Judging.{HasPassedBounds}
+use Rattle.runner_report.specs.Reports.{IsFinished, IsSummaryAt, IsBadSummary}
+use Rattle.runner.specs.inner.Judging.{HasPassedBounds, IsSummaryOf}
+
+-- with equal threads once or not, the whole says the same
+same_at : (once : Bool) (p : Program) (bound : ℕ)
+    → SaysTheSame (whole p (up_to once bound)) (whole p (Bounded bound))
+same_at false p bound = record { first_bad = refl; ends = refl; beyond = refl }
+same_at true p bound = says_the_same p (Bounded bound)
 
 -- the root's schedules within a bound are all complete ones with at most that many preemptions
 in_root : (p : Program) (bound : ℕ) (w : List ℕ) → Contains (complete_schedules p (start p)) w
@@ -33,10 +40,14 @@ of_root p bound w c =
 abbrev bad_within : Program → ℕ → List (List ℕ)
 bad_within p bound = filter (ends_badly p (start p)) (schedules_within p [] bound)
 
-first_bad_of : (p : Program) (bound : ℕ)
+plain_first_bad : (p : Program) (bound : ℕ)
     → (whole p (Bounded bound)).first_bad ≡ least (bad_within p bound)
 unfolding sum_of
-first_bad_of p bound = refl
+plain_first_bad p bound = refl
+
+first_bad_of : (once : Bool) (p : Program) (bound : ℕ)
+    → (whole p (up_to once bound)).first_bad ≡ least (bad_within p bound)
+first_bad_of once p bound = (same_at once p bound).first_bad ∙ plain_first_bad p bound
 
 -- a bad schedule within the bound is one of those
 is_bad_within : (p : Program) (bound : ℕ) (w : List ℕ) → IsBadSchedule p w
@@ -46,12 +57,12 @@ is_bad_within p bound w bad le =
     (contains_in (schedules_within p [] bound) w (in_root p bound w bad.0 le)) bad.1
 
 -- a whole without a bad schedule: none is within the bound
-pub none_within : (p : Program) (bound : ℕ) → (whole p (Bounded bound)).first_bad ≡ None
-    → NoBadBelow p (bound + 1)
-none_within p bound none w bad = elim (cases_lt bound (preemptions p w)) [
+pub none_within : (once : Bool) (p : Program) (bound : ℕ)
+    → (whole p (up_to once bound)).first_bad ≡ None → NoBadBelow p (bound + 1)
+none_within once p bound none w bad = elim (cases_lt bound (preemptions p w)) [
   | inl l ↦ omega (arith, l)
   | inr le ↦
-      let empty : bad_within p bound ≡ [] = least_none _ (sym (first_bad_of p bound) ∙ none) in
+      let empty : bad_within p bound ≡ [] = least_none _ (sym (first_bad_of once p bound) ∙ none) in
       absurd (subst (λ L. In L w) empty (is_bad_within p bound w bad le))
 ]
 
@@ -61,10 +72,10 @@ pub record IsLeastWithin (p : Program) (bound : ℕ) (w : List ℕ) : Type 0 whe
   pub within : preemptions p w ≤ bound
   pub least : (v : List ℕ) → IsBadSchedule p v → preemptions p v ≤ bound → precedes v w ≡ false
 
-pub least_within : (p : Program) (bound : ℕ) (w : List ℕ)
-    → (whole p (Bounded bound)).first_bad ≡ Some w → IsLeastWithin p bound w
-least_within p bound w some =
-    let l = least_some (bad_within p bound) w (sym (first_bad_of p bound) ∙ some) in
+pub least_within : (once : Bool) (p : Program) (bound : ℕ) (w : List ℕ)
+    → (whole p (up_to once bound)).first_bad ≡ Some w → IsLeastWithin p bound w
+least_within once p bound w some =
+    let l = least_some (bad_within p bound) w (sym (first_bad_of once p bound) ∙ some) in
     let m : In (schedules_within p [] bound) w × (ends_badly p (start p) w ≡ true) =
     from_filter (ends_badly p (start p)) (schedules_within p [] bound) w (contains_in _ w l.0) in
     let r = of_root p bound w (in_contains (schedules_within p [] bound) w m.0) in
@@ -75,16 +86,17 @@ least_within p bound w some =
     }
 
 -- whether some schedule exceeds the bound
-pub some_exceeds : (p : Program) (bound : ℕ) → (whole p (Bounded bound)).beyond ≡ true
-    → SomeExceeds p bound
-some_exceeds p bound h =
-    let r = (beyond_is p [] bound).0 h in
+pub some_exceeds : (once : Bool) (p : Program) (bound : ℕ)
+    → (whole p (up_to once bound)).beyond ≡ true → SomeExceeds p bound
+some_exceeds once p bound h =
+    let r = (beyond_is p [] bound).0 (sym (same_at once p bound).beyond ∙ h) in
     (r.0, (complete p (start p) r.0).0 ((in_under p [] r.0).1 r.1).0, r.2)
 
-pub exceeding_is_beyond : (p : Program) (bound : ℕ) → SomeExceeds p bound
-    → (whole p (Bounded bound)).beyond ≡ true
-exceeding_is_beyond p bound r =
-    (beyond_is p [] bound).1
+pub exceeding_is_beyond : (once : Bool) (p : Program) (bound : ℕ) → SomeExceeds p bound
+    → (whole p (up_to once bound)).beyond ≡ true
+exceeding_is_beyond once p bound r =
+    (same_at once p bound).beyond
+    ∙ (beyond_is p [] bound).1
     (r.0, (in_under p [] r.0).0 ((complete p (start p) r.0).1 r.1, refl), r.2)
 
 -- before the first bound
@@ -98,14 +110,27 @@ pub same_bad : (quick : Bool) (sum all : SummaryView) → IsSummaryOf quick sum 
 same_bad true sum all h = h.first_bad
 same_bad false sum all h = ap (λ (t : SummaryView). t.first_bad) h
 
+-- and the end views of all
+summary_at : (once : Bool) (p : Program) (bound : ℕ) (sum : SummaryView)
+    → sum ≡ whole p (up_to once bound) → IsSummaryAt once p bound sum
+summary_at once p bound sum is = record {
+  ends = ap (λ (t : SummaryView). t.ends) is ∙ (same_at once p bound).ends;
+  summary = is;
+}
+
+bad_summary : (quick once : Bool) (p : Program) (bound : ℕ) (sum : SummaryView)
+    → IsSummaryOf quick sum (whole p (up_to once bound)) → IsBadSummary quick once p bound sum
+bad_summary false once p bound sum is = summary_at once p bound sum is
+bad_summary true once p bound sum is = is
+
 -- a bad schedule: since none has fewer preemptions than the bound, it has as many
-pub found_bad : (quick : Bool) (p : Program) (last bound : ℕ) (sum : SummaryView) (w : List ℕ)
-    (kind : Kind) → bound ≤ last → HasPassedBounds p bound
-    → IsSummaryOf quick sum (whole p (Bounded bound)) → sum.first_bad ≡ Some w
-    → kind ≡ end_kind p w → IsBad quick p last bound sum (preemptions p w) w kind
-found_bad quick p last bound sum w kind low h is some ends =
-    let l =
-    least_within p bound w (sym (same_bad quick sum (whole p (Bounded bound)) is) ∙ some) in
+pub found_bad : (quick once : Bool) (p : Program) (last bound : ℕ) (sum : SummaryView)
+    (w : List ℕ) (kind : Kind) → bound ≤ last → HasPassedBounds p bound
+    → IsSummaryOf quick sum (whole p (up_to once bound)) → sum.first_bad ≡ Some w
+    → kind ≡ end_kind p w → IsBad quick once p last bound sum (preemptions p w) w kind
+found_bad quick once p last bound sum w kind low h is some ends =
+    let l = least_within once p bound w
+    (sym (same_bad quick sum (whole p (up_to once bound)) is) ∙ some) in
     let le : preemptions p w ≤ bound = l.within in
     let ge : bound ≤ preemptions p w = h.none w l.bad in
     let same : bound ≡ preemptions p w = omega (arith, le, ge) in
@@ -119,23 +144,25 @@ found_bad quick p last bound sum w kind low h is some ends =
         first = λ v bad e. l.least v bad (omega (arith, e, le));
       };
       ends = ends;
-      summary = subst (λ k. IsSummaryOf quick sum (whole p (Bounded k))) same is;
+      summary = subst (λ k. IsBadSummary quick once p k sum) same
+          (bad_summary quick once p bound sum is);
     }
 
 -- no bad schedule, at the last bound or where none exceeds it
-pub found_none : (p : Program) (last bound : ℕ) (sum : SummaryView) (all : Bool) → bound ≤ last
-    → HasPassedBounds p bound → sum ≡ whole p (Bounded bound) → sum.first_bad ≡ None
-    → all ≡ not sum.beyond → (bound ≡ last) ⊎ (all ≡ true) → IsClean p last bound sum all
-found_none p last bound sum all low h is none e end = record {
+pub found_none : (once : Bool) (p : Program) (last bound : ℕ) (sum : SummaryView) (all : Bool)
+    → bound ≤ last → HasPassedBounds p bound → sum ≡ whole p (up_to once bound)
+    → sum.first_bad ≡ None → all ≡ not sum.beyond → (bound ≡ last) ⊎ (all ≡ true)
+    → IsClean once p last bound sum all
+found_none once p last bound sum all low h is none e end = record {
   none = λ w bad. far w bad end;
-  summary = is;
+  summary = summary_at once p bound sum is;
   within = (λ t r. no_more t r, λ k. none_exceeds (sum.beyond) refl k);
   low = low;
   ended = end;
   least = h.past;
 }
   where
-    same_beyond : sum.beyond ≡ (whole p (Bounded bound)).beyond
+    same_beyond : sum.beyond ≡ (whole p (up_to once bound)).beyond
     same_beyond = ap (λ (t : SummaryView). t.beyond) is
 
     not_both : (b : Bool) → true ≡ not b → b ≡ true → ⊥
@@ -144,14 +171,14 @@ found_none p last bound sum all low h is none e end = record {
 
     no_more : all ≡ true → SomeExceeds p bound → ⊥
     no_more t r =
-        not_both sum.beyond (sym t ∙ e) (same_beyond ∙ exceeding_is_beyond p bound r)
+        not_both sum.beyond (sym t ∙ e) (same_beyond ∙ exceeding_is_beyond once p bound r)
 
     none_exceeds : (b : Bool) → sum.beyond ≡ b → (SomeExceeds p bound → ⊥) → all ≡ true
-    none_exceeds true t k = absurd (k (some_exceeds p bound (sym same_beyond ∙ t)))
+    none_exceeds true t k = absurd (k (some_exceeds once p bound (sym same_beyond ∙ t)))
     none_exceeds false t k = e ∙ ap not t
 
     here : NoBadBelow p (bound + 1)
-    here = none_within p bound (ap (λ (t : SummaryView). t.first_bad) (sym is) ∙ none)
+    here = none_within once p bound (ap (λ (t : SummaryView). t.first_bad) (sym is) ∙ none)
 
     far : (w : List ℕ) → IsBadSchedule p w → (bound ≡ last) ⊎ (all ≡ true)
         → last + 1 ≤ preemptions p w
@@ -163,10 +190,10 @@ found_none p last bound sum all low h is none e end = record {
 
 -- what is finished
 
-pub finished_here : (p : Program) (bound : ℕ) (sum : SummaryView) → sum ≡ whole p (Bounded bound)
-    → sum.first_bad ≡ None → IsFinished p bound (Some bound)
-finished_here p bound sum is none =
-    (inl refl, none_within p bound (ap (λ (t : SummaryView). t.first_bad) (sym is) ∙ none))
+pub finished_here : (once : Bool) (p : Program) (bound : ℕ) (sum : SummaryView)
+    → sum ≡ whole p (up_to once bound) → sum.first_bad ≡ None → IsFinished p bound (Some bound)
+finished_here once p bound sum is none =
+    (inl refl, none_within once p bound (ap (λ (t : SummaryView). t.first_bad) (sym is) ∙ none))
 
 pub finished_below : (p : Program) (bound f : ℕ) → HasPassedBounds p bound → bound ≡ f + 1
     → IsFinished p bound (Some f)

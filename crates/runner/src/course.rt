@@ -48,13 +48,15 @@ pub(crate) fn preemptions_of(alloc: Global, item: &Item) -> Result<u32, ExploreE
 }
 
 // The first mode in which a search under a prefix tries anything: at the bound of the prefix's own
-// preemptions, or, if the search is unbounded, by sleep sets.
-fn first_mode(search: Search, preemptions: u32) -> Mode
-    ensures { result ≡ first_mode search preemptions }
+// preemptions, or, if the search is unbounded, by sleep sets; with equal threads once, or not.
+fn first_mode(once: bool, search: Search, preemptions: u32) -> Mode
+    ensures { result ≡ first_mode once search preemptions }
 {
-    match search {
-        Search::UpTo(_) => Mode::Bounded(preemptions),
-        Search::Unbounded => Mode::Reduced,
+    match (search, once) {
+        (Search::UpTo(_), false) => Mode::Bounded(preemptions),
+        (Search::UpTo(_), true) => Mode::BoundedOnce(preemptions),
+        (Search::Unbounded, false) => Mode::Reduced,
+        (Search::Unbounded, true) => Mode::ReducedOnce,
     }
 }
 
@@ -65,6 +67,7 @@ fn lists_deferred(search: Search, mode: Mode) -> bool
 {
     match (search, mode) {
         (Search::UpTo(last), Mode::Bounded(bound)) => bound < last,
+        (Search::UpTo(last), Mode::BoundedOnce(bound)) => bound < last,
         (_, _) => false,
     }
 }
@@ -107,7 +110,7 @@ pub(crate) fn begin_search(
     ensures error { IfErr result (λ e. e ≡ OutOfMemory) }
 {
     let program = Arc::try_clone(program)?;
-    let mode = first_mode(options.search, 0);
+    let mode = first_mode(options.symmetry, options.search, 0);
     let mut book = open_book(alloc, program, mode, options.quick)?;
     begin_bound(&mut book, options.search);
     Ok(Course {
@@ -150,7 +153,7 @@ pub(crate) fn untried_levels(alloc: Global, end: u32) -> Result<Vec<Level>, Expl
 // the preemptions that the prefix has. There are none where the search is unbounded.
 fn levels_below(alloc: Global, search: Search, number: u32) -> Result<Vec<Level>, ExploreError>
     ensures levels { IfOk result (λ v. (i : ItemView) → IsItem i →
-        number ≡ preemptions i.program i.prefix → AreBelow i (first_mode search number) v.items) }
+        number ≡ preemptions i.program i.prefix → AreBelow i (first_mode false search number) v.items) }
     ensures error { IfErr result (λ e. e ≡ OutOfMemory) }
 {
     match search {
@@ -170,12 +173,13 @@ pub(crate) fn begin_search_under(
 ) -> Result<Course, ExploreError>
     requires number { number ≡ preemptions item.program item.prefix }
     requires runs { IsItem item }
-    requires mode { IsModeOf options.search (first_mode options.search number) }
+    requires mode { IsModeOf false options.search (first_mode false options.search number) }
     requires quick { options.quick ≡ false }
+    requires symmetry { options.symmetry ≡ false }
     ensures course { IfOk result (IsCourse item options true) }
     ensures error { IfErr result (λ e. e ≡ OutOfMemory) }
 {
-    let mode = first_mode(options.search, number);
+    let mode = first_mode(false, options.search, number);
     let levels = levels_below(alloc, options.search, number)?;
     let mut book = Book::open_under(alloc, item, mode)?;
     begin_bound(&mut book, options.search);

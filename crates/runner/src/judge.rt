@@ -2,7 +2,7 @@
 
 ghost use Rattle.std.specs.Prelude.{◌≡◌, ◌↔◌, IfSome, IfNone, IsTrue};
 ghost use Rattle.runner_report.specs.Reports.{IsCause};
-ghost use Rattle.runner.specs.Levels.{IsModeOf, IsLast, GoesOn};
+ghost use Rattle.runner.specs.Levels.{IsLast, GoesOn};
 ghost use Rattle.runner.specs.inner.Judging.{HasNoCause, Comes, ending_cause};
 
 use book::books::Book;
@@ -43,21 +43,22 @@ pub(crate) enum Next {
 }
 
 // Whether a mode is the last of a search: its bound is the one that was asked for, or both have no
-// bound. No other pair is given here: a mode has a bound exactly where its search has one.
+// bound.
 fn is_last_mode(search: Search, mode: Mode) -> bool
-    requires { IsModeOf search mode }
     ensures { IsTrue result ↔ IsLast search mode }
 {
     match (search, mode) {
         (Search::UpTo(last), Mode::Bounded(bound)) => bound == last,
-        (_, _) => true,
+        (Search::UpTo(last), Mode::BoundedOnce(bound)) => bound == last,
+        (Search::Unbounded, Mode::Reduced) => true,
+        (Search::Unbounded, Mode::ReducedOnce) => true,
+        (_, _) => false,
     }
 }
 
 /// Whether a search goes on to the next bound, once all is tried in a mode, with this summary: no
 /// schedule is bad, some exceed the bound, and the mode isn't the search's last.
 pub(crate) fn needs_next_bound(search: Search, mode: Mode, summary: &Summary) -> bool
-    requires { IsModeOf search mode }
     ensures { IsTrue result ↔ GoesOn search mode summary.now }
 {
     summary.first_bad().is_none() && summary.beyond() && !is_last_mode(search, mode)
@@ -82,7 +83,6 @@ fn cause_of(limit: Option<u64>, summary: &Summary, stopped: bool) -> Option<Caus
 /// end. `stopped` says whether the gate stopped a worker. Where all is tried and no next bound
 /// follows, the search isn't cut short, even if a worker was stopped or the limit is reached.
 pub(crate) fn judge(options: Options, book: &Book, stopped: bool) -> Next
-    requires { IsModeOf options.search book.now.mode }
     ensures { Comes stopped options book.now result }
 {
     let is_open = book.open_len() > 0;

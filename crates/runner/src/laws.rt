@@ -11,17 +11,28 @@ ghost use Rattle.runner_report.specs.Reports.{IsFollowed, IsCutShort};
 ghost use Rattle.runner_report.specs.declared.{limits.TheConstants.QUOTA, options.Options.Options};
 ghost use Rattle.runner_report.specs.declared.{options.Search.TheVariants.UpTo, report.Cause.Cause};
 ghost use Rattle.runner_report.specs.declared.report.Report.{Report};
+ghost use Rattle.runner.specs.Agreement.{SayTheSame};
 ghost use Rattle.runner_workers.specs.declared.limits.TheConstants.{WORKERS};
 
 use crate::limits::{QUOTA, WORKERS};
 
-/// Two reports of one program and search have the same text, if neither is quick or was cut short.
-/// So the text doesn't depend on workers, gate and quota, nor on a limit that was not reached.
+/// Two reports of one program and search have the same text, if neither is quick or was cut short,
+/// and both or none try equal threads once. So the text doesn't depend on workers, gate and quota,
+/// nor on a limit that was not reached.
 pub fn reports_agree()
+    ensures { (may other : Bool) (p : Program) (o q : Options) (r s : Report) →
+        o.search ≡ q.search → o.symmetry ≡ q.symmetry → o.quick ≡ false → q.quick ≡ false →
+        IsReport may p o r → IsReport other p q s →
+        IsWhole r.verdict → IsWhole s.verdict → report_text r ≡ report_text s }
+{}
+
+/// Two reports of one program and search, of which neither is quick or was cut short, say the same
+/// but for the counts, though one tries equal threads once and the other doesn't.
+pub fn equal_threads_once_say_the_same()
     ensures { (may other : Bool) (p : Program) (o q : Options) (r s : Report) →
         o.search ≡ q.search → o.quick ≡ false → q.quick ≡ false →
         IsReport may p o r → IsReport other p q s →
-        IsWhole r.verdict → IsWhole s.verdict → report_text r ≡ report_text s }
+        IsWhole r.verdict → IsWhole s.verdict → SayTheSame r s }
 {}
 
 /// A search up to a bound that is said to be cut short isn't finished: fewer schedules were tried

@@ -106,6 +106,7 @@ fn report_in(
         verdict,
         summary: summary.try_clone(alloc)?,
         quick: options.quick,
+        symmetry: options.symmetry,
     })
 }
 
@@ -117,7 +118,7 @@ fn whole_report(
     mode: Mode,
     summary: &Summary,
 ) -> Result<Report, ExploreError>
-    requires mode { IsModeOf options.search mode }
+    requires mode { IsModeOf options.symmetry options.search mode }
     requires bad { IsOfProgram program.now summary.now.first_bad }
     requires ends { GoesOn options.search mode summary.now → ⊥ }
     ensures report { IfOk result (λ r. (may : Bool) → HasPassed (root_of program.now) mode →
@@ -145,7 +146,7 @@ pub fn report_of(
     mode: Mode,
     summary: &Summary,
 ) -> Result<Option<Report>, ExploreError>
-    requires mode { IsModeOf options.search mode }
+    requires mode { IsModeOf options.symmetry options.search mode }
     requires bad { IsOfProgram program.now summary.now.first_bad }
     ensures report { IfOk result (λ o. IfSome o (λ r. HasPassed (root_of program.now) mode →
         summary.now ≡ whole program.now mode → IsReport false program.now options r)) }
@@ -182,8 +183,12 @@ fn bound_below(mode: Mode) -> Option<u32>
     ensures { IsBoundBelow mode result }
 {
     match mode {
-        Mode::Bounded(0) | Mode::Reduced => None,
+        Mode::Bounded(0) => None,
         Mode::Bounded(bound) => Some(bound - 1),
+        Mode::BoundedOnce(0) => None,
+        Mode::BoundedOnce(bound) => Some(bound - 1),
+        Mode::Reduced => None,
+        Mode::ReducedOnce => None,
     }
 }
 

@@ -1,6 +1,6 @@
 //! Searches by several workers, each in a thread.
 
-ghost use Rattle.std.specs.Prelude.{◌≡◌, ◌≤◌, ◌<◌, Bool, IfOk, IfErr, OnOk, IfSome, IfNone};
+ghost use Rattle.std.specs.Prelude.{◌≡◌, ◌≤◌, ◌<◌, Bool, false, IfOk, IfErr, OnOk, IfSome, IfNone};
 ghost use Rattle.std.specs.Arc.{arc_value};
 ghost use Rattle.runner_report.specs.declared.error.ExploreError.TheVariants.{OutOfMemory};
 ghost use Rattle.runner_report.specs.declared.options.Search.TheVariants.{UpTo};
@@ -148,7 +148,8 @@ pub fn explore<G: Gate, R: Threads + Wait + Sync>(
 // The last bound of a search, if a prefix with this many preemptions exceeds it; else `None`.
 fn exceeded_bound(search: Search, preemptions: u32) -> Option<u32>
     ensures past { IfSome result (λ last. (search ≡ UpTo last) × (last < preemptions)) }
-    ensures within { IfNone result (IsModeOf search (first_mode search preemptions)) }
+    ensures within { IfNone result
+        (IsModeOf false search (first_mode false search preemptions)) }
 {
     match search {
         Search::UpTo(last) if last < preemptions => Some(last),
@@ -161,7 +162,8 @@ fn exceeded_bound(search: Search, preemptions: u32) -> Option<u32>
 /// or none under it exceeds the bound, or to the bound that was asked for. It is one level where
 /// the search is unbounded. At a bound that the item's own prefix exceeds nothing is tried, and the
 /// level says that there are schedules beyond the bound. Where the search is cut short, the last
-/// level has the cause. No search under an item is quick, whatever the options say.
+/// level has the cause. No search under an item is quick or tries equal threads once, whatever the
+/// options say.
 ///
 /// As that of [`explore`], the contract holds if the call returns.
 ///
@@ -191,6 +193,7 @@ pub fn explore_under<G: Gate, R: Threads + Wait + Sync>(
     }
     let options = Options {
         quick: false,
+        symmetry: false,
         ..options
     };
     let course = begin_search_under(alloc, item, preemptions, options)?;

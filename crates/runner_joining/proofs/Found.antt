@@ -10,6 +10,7 @@ use Rattle.semantics_schedules.proofs.ReducedSchedules.{in_red}
 use Rattle.walk_summary.{specs.Summaries.{sum_of, with_beyond}, proofs.SumsJoin.sum_of_none}
 use Rattle.walk_items.specs.Items.{ItemView, root_of, schedules_of, everything, item_sum}
 use Rattle.walk_items.specs.declared.mode.Mode.{Mode, TheVariants.{Bounded, Reduced}}
+use Rattle.walk_items.specs.declared.mode.Mode.TheVariants.{BoundedOnce, ReducedOnce}
 use Rattle.walk_items.proofs.{Filters.{filter_same, filter_none}, WalkedItems.root_pruned}
 use Rattle.book.specs.Progress.{mode_bound}
 use Rattle.walk_cover.specs.Under.{IsUnder, HasNoneUnder}
@@ -34,22 +35,34 @@ same_bounded bound m n p w i j a b = λ k. item_sum (Bounded bound) (record {
   mask = i.mask;
 })
 
+not_once : false ≡ true → ⊥
+not_once e = cc
+
 same_sum : (search : Search) (mode : Mode) (p : Program) (w : List ℕ) (i j : ItemView) →
-    IsModeOf search mode → IsUnder (last_mode search) p w i → IsUnder mode p w j →
+    IsModeOf false search mode → IsUnder (last_mode search) p w i → IsUnder mode p w j →
     item_sum mode i ≡ item_sum mode j
 same_sum (UpTo last) (Bounded bound) p w i j of a b =
     same_bounded bound (Bounded last) (Bounded bound) p w i j a b
+same_sum (UpTo last) (BoundedOnce bound) p w i j of a b = absurd (not_once of.0)
 same_sum (UpTo last) Reduced p w i j of a b = absurd of
+same_sum (UpTo last) ReducedOnce p w i j of a b = absurd of
 same_sum Unbounded (Bounded bound) p w i j of a b = absurd of
+same_sum Unbounded (BoundedOnce bound) p w i j of a b = absurd of
+same_sum Unbounded ReducedOnce p w i j of a b = absurd (not_once of)
 same_sum Unbounded Reduced p w i j of a b =
     let schedules : schedules_of Reduced i ≡ schedules_of Reduced j =
     a.own ∙ (ap (λ v. filter (begins_with v) (schedules_of Reduced (root_of p))) (a.is ∙ sym b.is)
     ∙ sym b.own) in
     λ k. with_beyond (sum_of ((a.below.program ∙ sym b.below.program) k) (schedules k)) false
 
-at_mode : (mode : Mode) → mode_at (mode_bound mode) ≡ mode
-at_mode (Bounded bound) = refl
-at_mode Reduced = refl
+at_mode : (search : Search) (mode : Mode) → IsModeOf false search mode →
+    mode_at (mode_bound mode) ≡ mode
+at_mode search (Bounded bound) of = refl
+at_mode search Reduced of = refl
+at_mode (UpTo last) (BoundedOnce bound) of = absurd (not_once of.0)
+at_mode (UpTo last) ReducedOnce of = absurd of
+at_mode Unbounded (BoundedOnce bound) of = absurd of
+at_mode Unbounded ReducedOnce of = absurd (not_once of)
 
 -- the levels of an item
 
@@ -65,23 +78,25 @@ passed_honest last p w i bound (x ∷ xs) l under h (inr m) =
     passed_honest last p w i (bound + 1) xs l under h.1 m
 
 below_honest : (search : Search) (mode : Mode) (p : Program) (w : List ℕ) (i : ItemView)
-    (levels : List Level) (l : Level) → IsModeOf search mode → IsUnder (last_mode search) p w i →
+    (levels : List Level) (l : Level) → IsModeOf false search mode → IsUnder (last_mode search) p w i →
     AreBelow i mode levels → In levels l → IsHonestLevel p w l
 below_honest (UpTo last) (Bounded bound) p w i levels l of under h m =
     passed_honest last p w i 0 levels l under h.1 m
 below_honest (UpTo last) Reduced p w i levels l of under h m = absurd of
 below_honest Unbounded (Bounded bound) p w i levels l of under h m = absurd of
+below_honest search (BoundedOnce bound) p w i levels l of under h m = absurd h
+below_honest search ReducedOnce p w i levels l of under h m = absurd h
 below_honest Unbounded Reduced p w i levels l of under h m =
     absurd (subst (λ ls. In ls l) h m)
 
 last_honest : (search : Search) (limit : Option ℕ) (mode : Mode) (p : Program) (w : List ℕ)
-    (i : ItemView) (l : Level) → IsModeOf search mode → IsUnder (last_mode search) p w i →
+    (i : ItemView) (l : Level) → IsModeOf false search mode → IsUnder (last_mode search) p w i →
     l.bound ≡ mode_bound mode → IsLastSum false search limit mode i l.cause l.summary →
     IsHonestLevel p w l
 last_honest search limit mode p w i l of under at sum whole j =
     let told = subst (λ cause. IsLastSum false search limit mode i cause l.summary) whole sum in
     subst (λ m. IsUnder m p w j → l.summary ≡ item_sum m j)
-    (sym (at_mode mode) ∙ ap mode_at (sym at))
+    (sym (at_mode search mode of) ∙ ap mode_at (sym at))
     (λ u. told.0 ∙ same_sum search mode p w i j of under u)
 
 levels_honest : (search : Search) (limit : Option ℕ) (p : Program) (w : List ℕ) (i : ItemView)
@@ -98,11 +113,10 @@ levels_honest search limit p w i levels l under h m =
 
 -- no schedule is under a prefix
 
-none_pruned : (mode : Mode) (p : Program) (w : List ℕ) → HasNoneUnder mode p w →
+none_bounded : (bound : ℕ) (p : Program) (w : List ℕ) → HasNoneUnder (Bounded bound) p w →
     filter (begins_with w) (schedules_of Reduced (root_of p)) ≡ []
 unfolding schedules_under
-none_pruned Reduced p w h = h
-none_pruned (Bounded bound) p w h =
+none_bounded bound p w h =
     filter_same (begins_with w) (λ v. false) kept (λ v m. off v m (begins_with w v) refl)
     ∙ filter_none kept
   where
@@ -118,6 +132,13 @@ none_pruned (Bounded bound) p w h =
     off v m true e =
         absurd (subst (λ L. In L v) h
         (in_filter (begins_with w) (everything (Bounded bound) (root_of p)) v (all v m) e))
+
+none_pruned : (mode : Mode) (p : Program) (w : List ℕ) → HasNoneUnder mode p w →
+    filter (begins_with w) (schedules_of Reduced (root_of p)) ≡ []
+none_pruned (Bounded bound) p w h = none_bounded bound p w h
+none_pruned (BoundedOnce bound) p w h = none_bounded bound p w h
+none_pruned Reduced p w h = h
+none_pruned ReducedOnce p w h = h
 
 none_honest : (mode : Mode) (p : Program) (w : List ℕ) → HasNoneUnder mode p w →
     IsHonestLevel p w empty_level

@@ -12,7 +12,7 @@ use Rattle.walk_summary.specs.Summaries.{SummaryView, nothing, join}
 use Rattle.walk_summary.proofs.SumsJoin.{join_comm, join_assoc, join_first_bad}
 use Rattle.walk_items.specs.Items.{ItemView, root_of, item_sum, item_sums, whole}
 use Rattle.walk_items.specs.declared.mode.Mode.{Mode, TheVariants.Bounded}
-use Rattle.walk_cover.specs.{CoverBy.IsCoverBy, Covers.IsCover, Under.IsUnder}
+use Rattle.walk_cover.specs.{CoverBy.IsCoverBy, Covers.{IsCover, plain}, Under.IsUnder}
 use Rattle.walk_cover.proofs.{Covers.cover_sum, Lengths.same_cover, Settled.settled_sum}
 use Rattle.runner_report.specs.{Promises.IsReport, declared.options.Options.Options}
 use Rattle.runner_report.specs.declared.options.Search.{Search, TheVariants.{UpTo, Unbounded}}
@@ -23,9 +23,9 @@ use Rattle.runner_joining.specs.Parts.{options_of, mode_at, last_mode, prefixes_
 
 -- the modes and bounds that the search comes to
 
-pub mode_lower : (search : Search) (a b : ℕ) → a ≤ b → IsModeOf search (Bounded b) →
-    IsModeOf search (Bounded a)
-mode_lower (UpTo last) a b le h = (let l : b ≤ last = h in omega (arith, le, l))
+pub mode_lower : (search : Search) (a b : ℕ) → a ≤ b → IsModeOf false search (Bounded b) →
+    IsModeOf false search (Bounded a)
+mode_lower (UpTo last) a b le h = (refl, let l : b ≤ last = h.1 in omega (arith, le, l))
 mode_lower Unbounded a b le h = absurd h
 
 comes_lower : (p : Program) (search : Search) (parts : List Part) (a b : ℕ) → a ≤ b →
@@ -36,7 +36,7 @@ comes_lower p search parts a b le h = record {
 }
 
 cover_at : (search : Search) (bound : Option ℕ) (p : Program) (items : List ItemView) →
-    IsModeOf search (mode_at bound) → IsCover (last_mode search) (root_of p) items →
+    IsModeOf false search (mode_at bound) → IsCover (last_mode search) (root_of p) items →
     IsCover (mode_at bound) (root_of p) items
 cover_at (UpTo last) (Some bound) p items of h = same_cover last bound (root_of p) items h
 cover_at (UpTo last) None p items of h = absurd of
@@ -46,7 +46,7 @@ cover_at Unbounded None p items of h = h
 -- what a part tells of an item at a bound that the search comes to is the item's sum there
 told_is : (p : Program) (search : Search) (parts : List Part) (bound : Option ℕ) (i : ItemView)
     (x : Part) → AreHonest p search parts → ComesTo p search parts bound →
-    ((b : Option ℕ) → IsModeOf search (mode_at b) → IsUnder (mode_at b) p i.prefix i) →
+    ((b : Option ℕ) → IsModeOf false search (mode_at b) → IsUnder (mode_at b) p i.prefix i) →
     Contains parts x → Tells i.prefix bound x → x.level.summary ≡ item_sum (mode_at bound) i
 told_is p search parts bound i x honest comes under m t = go t.bound
   where
@@ -88,13 +88,18 @@ told_sums mode parts bound (i ∷ is) (x ∷ xs) h z = λ k. join
     (told_sums mode parts bound is xs (All-tail (λ i. (x : Part) → TellsOf parts bound i x →
     x.level.summary ≡ item_sum mode i) i is h) z.1 k)
 
+-- a part is of all threads
+plain_at : (bound : Option ℕ) → plain (mode_at bound) ≡ mode_at bound
+plain_at (Some b) = refl
+plain_at None = refl
+
 told_whole : (p : Program) (search : Search) (parts : List Part) (bound : Option ℕ)
     (items : List ItemView) (sum : SummaryView) → AreHonest p search parts →
     ComesTo p search parts bound →
     IsCoverBy (last_mode search) p (prefixes_for search parts) items →
     AreTold parts bound items sum → sum ≡ whole p (mode_at bound)
 told_whole p search parts bound items sum honest comes h t =
-    let at : (b : Option ℕ) → IsModeOf search (mode_at b) →
+    let at : (b : Option ℕ) → IsModeOf false search (mode_at b) →
     IsCover (mode_at b) (root_of p) items =
     λ b of. cover_at search b p items of h.cover in
     t.is
@@ -102,7 +107,8 @@ told_whole p search parts bound items sum honest comes h t =
     (λ k d l x tells. told_is p search parts bound (get_or items k d) x honest comes
     (λ b of. record { is = refl; below = (at b of).below k d l; own = (at b of).own k d l })
     tells.0 tells.1) t.each
-    ∙ sym (cover_sum (mode_at bound) (root_of p) items (at bound comes.of)))
+    ∙ sym (subst (λ m. whole p m ≡ item_sums m items) (plain_at bound)
+    (cover_sum (mode_at bound) (root_of p) items (at bound comes.of))))
 
 passed : (p : Program) (search : Search) (parts : List Part) (bound : Option ℕ) →
     AreHonest p search parts → ComesTo p search parts bound →

@@ -99,7 +99,7 @@ pub record GoesOnAt (p : Program) (search : Search) (parts : List Part) (bound :
 -- the search comes to the bound: as the parts tell, it goes on after each lower one
 pub record ComesTo (p : Program) (search : Search) (parts : List Part) (bound : Option ℕ) :
     Type 0 where
-  pub of : IsModeOf search (mode_at bound)
+  pub of : IsModeOf false search (mode_at bound)
   pub on : IfSome bound (λ b. (a : ℕ) → a < b → GoesOnAt p search parts (Some a))
 
 -- each part of a bound that the search comes to is honest
@@ -153,7 +153,8 @@ of_cover NoMemory = OutOfMemory
 
 -- what a search as far as this is asked for: all, without a limit
 abbrev pub options_of : Search → Options
-options_of search = record { search = search; limit = None; quota = QUOTA; quick = false }
+options_of search =
+    record { search = search; limit = None; quota = QUOTA; quick = false; symmetry = false }
 
 -- what an error says of the parts
 abbrev pub JoinErrorMeans : Program → Search → List Part → JoinError → Type 0

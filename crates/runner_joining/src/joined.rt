@@ -224,7 +224,7 @@ fn mode_of(bound: Option<u32>) -> Mode
 // The last bound of a search; `None` where it is unbounded.
 fn last_bound(search: Search) -> Option<u32>
     ensures mode { mode_at result ≡ last_mode search }
-    ensures of { IsModeOf search (mode_at result) }
+    ensures of { IsModeOf false search (mode_at result) }
     ensures last { IsLast search (mode_at result) }
 {
     match search {

@@ -1,5 +1,5 @@
 -- A report has no number that is not whole.
-use Rattle.std.proofs.Common.{◌≡◌, refl, ℕ, ℤ, pos, negsuc, Bool, true, false, ◌||◌, List, [], ◌∷◌}
+use Rattle.std.proofs.Common.{◌≡◌, refl, ℕ, ℤ, pos, negsuc, Bool, true, false, ◌||◌, List, [], ◌∷◌, codes}
 use Rattle.std.proofs.Common.{map, Option, Some, None}
 use Rattle.std.specs.{Cmp.Lexicographic.slice_cmp, Ordering.{nat_cmp, match_ordering}}
 use Rattle.std.specs.declared.cmp.Ordering.{Ordering, TheVariants.{Less, Equal, Greater}}
@@ -8,7 +8,7 @@ use Rattle.semantics.specs.declared.view.Kind.TheVariants.{Done, Failed, Stuck}
 use Rattle.serde_json.specs.{Data.{Data, number, Members, no_members, member, put}, Find.of_integer}
 use Rattle.serde_json.specs.View.{items_of}
 use Rattle.serde_json.specs.Written.{has_float, items_have_float, members_have_float}
-use Rattle.runner_report.specs.ReportText.{kind_data, cause_data, bound_data, values_data, end_data, first_bad_data, Member, with_members, common_members, quick_members, verdict_members, report_data}
+use Rattle.runner_report.specs.ReportText.{kind_data, cause_data, bound_data, values_data, end_data, first_bad_data, Member, with_members, common_members, flag_members, verdict_members, report_data}
 use Rattle.runner_report.specs.declared.report.Cause.{Cause, TheVariants.{Limit, Stopped}}
 use Rattle.runner_report.specs.declared.report.{Report.Report, Verdict.Verdict}
 use Rattle.runner_report.specs.declared.report.Verdict.TheVariants.{Clean, Bad, Incomplete}
@@ -84,16 +84,19 @@ verdict_whole first_bad (Bad preemptions schedule kind) =
 verdict_whole first_bad (Incomplete cause finished) =
     (refl, (cause_whole cause, (bound_whole finished, (first_bad_whole first_bad, tt))))
 
-quick_whole : (quick : Bool) → AllWhole (quick_members quick)
-quick_whole true = (refl, tt)
-quick_whole false = tt
+flag_whole : (key : List ℕ) (flag : Bool) → AllWhole (flag_members key flag)
+flag_whole key true = (refl, tt)
+flag_whole key false = tt
 
 pub report_whole : (r : Report) → has_float (report_data r) ≡ false
 report_whole r =
     let common = with_members (common_members r) no_members in
+    let quick = flag_members (codes "quick") r.quick in
+    let symmetry = flag_members (codes "symmetry") r.symmetry in
     with_whole (verdict_members r.summary.first_bad r.verdict)
-    (with_members (quick_members r.quick) common)
+    (with_members symmetry (with_members quick common))
     (verdict_whole r.summary.first_bad r.verdict)
-    (with_whole (quick_members r.quick) common (quick_whole r.quick)
+    (with_whole symmetry (with_members quick common) (flag_whole (codes "symmetry") r.symmetry)
+    (with_whole quick common (flag_whole (codes "quick") r.quick)
     (with_whole (common_members r) no_members
-    (bound_whole r.bound, (ends_whole r.summary.ends, (refl, (refl, (refl, tt))))) refl))
+    (bound_whole r.bound, (ends_whole r.summary.ends, (refl, (refl, (refl, tt))))) refl)))

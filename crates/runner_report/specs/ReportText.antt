@@ -72,10 +72,10 @@ common_members r =
     ∷ (codes "tried", count_data r.summary.tried)
     ∷ []
 
--- the member of a quick report alone
-abbrev pub quick_members : Bool → List Member
-quick_members true = (codes "quick", boolean true) ∷ []
-quick_members false = []
+-- the member of a report of which this is so
+abbrev pub flag_members : List ℕ → Bool → List Member
+flag_members key true = (key, boolean true) ∷ []
+flag_members key false = []
 
 -- the members of a clean report
 abbrev pub clean_members : Bool → List Member
@@ -112,8 +112,9 @@ verdict_members first_bad (Incomplete cause finished) =
 abbrev pub report_data : Report → Data
 report_data r = object
     (with_members (verdict_members r.summary.first_bad r.verdict)
-    (with_members (quick_members r.quick)
-    (with_members (common_members r) no_members)))
+    (with_members (flag_members (codes "symmetry") r.symmetry)
+    (with_members (flag_members (codes "quick") r.quick)
+    (with_members (common_members r) no_members))))
 
 abbrev pub report_text : Report → List ℕ
 report_text r = compact_text (report_data r)

@@ -7,7 +7,9 @@ use Rattle.semantics.specs.{Machine.start, declared.view.Kind.Kind}
 use Rattle.semantics_schedules.specs.Order.{precedes, ends_badly}
 use Rattle.semantics_schedules.specs.Schedules.{complete_schedules, preemptions}
 use Rattle.walk_items.specs.{Items.{ItemView, root_of, whole}, Walks.IsSplit}
+use Rattle.walk_items.specs.Once.{up_to}
 use Rattle.walk_items.specs.declared.mode.Mode.{Mode, TheVariants.{Bounded, Reduced}}
+use Rattle.walk_items.specs.declared.mode.Mode.TheVariants.{BoundedOnce, ReducedOnce}
 use Rattle.walk_summary.specs.Summaries.{SummaryView, IsBoundedBy, end_kind}
 use Rattle.runner_report.specs.declared.options.Search.{Search, TheVariants.{UpTo, Unbounded}}
 use Rattle.runner_report.specs.declared.report.Cause.{Cause, TheVariants.{Limit, Stopped}}
@@ -33,26 +35,33 @@ pub record IsFirstOfFewest (p : Program) (k : ℕ) (w : List ℕ) : Type 0 where
   pub fewest : NoBadBelow p k
   pub first : (v : List ℕ) → IsBadSchedule p v → preemptions p v ≡ k → precedes v w ≡ false
 
--- what a report's summary says of the whole: that of a quick search, which found a bad schedule, is
--- only bounded by it
-abbrev pub IsSummaryOf : Bool → SummaryView → SummaryView → Type 0
-IsSummaryOf false sum all = sum ≡ all
-IsSummaryOf true sum all = IsBoundedBy sum all
+-- the end views are those of all schedules within the bound; the counts are of those that are tried,
+-- with equal threads once or not
+pub record IsSummaryAt (once : Bool) (p : Program) (bound : ℕ) (sum : SummaryView) : Type 0 where
+  pub ends : sum.ends ≡ (whole p (Bounded bound)).ends
+  pub summary : sum ≡ whole p (up_to once bound)
+
+-- what a report's summary says where a bad schedule was found: that of a quick search is only
+-- bounded by the summary of what is tried
+abbrev pub IsBadSummary : Bool → Bool → Program → ℕ → SummaryView → Type 0
+IsBadSummary false once p bound sum = IsSummaryAt once p bound sum
+IsBadSummary true once p bound sum = IsBoundedBy sum (whole p (up_to once bound))
 
 -- a bad schedule was found: the first of those with fewest preemptions
-pub record IsBad (quick : Bool) (p : Program) (last bound : ℕ) (sum : SummaryView)
+pub record IsBad (quick once : Bool) (p : Program) (last bound : ℕ) (sum : SummaryView)
     (k : ℕ) (w : List ℕ) (kind : Kind) : Type 0 where
   pub at : bound ≡ k
   pub low : k ≤ last
   pub first : IsFirstOfFewest p k w
   pub ends : kind ≡ end_kind p w
-  pub summary : IsSummaryOf quick sum (whole p (Bounded k))
+  pub summary : IsBadSummary quick once p k sum
 
 -- no bad schedule is within the bound that was asked for; the search ended there, or at the least
 -- bound that no schedule exceeds
-pub record IsClean (p : Program) (last bound : ℕ) (sum : SummaryView) (all : Bool) : Type 0 where
+pub record IsClean (once : Bool) (p : Program) (last bound : ℕ) (sum : SummaryView) (all : Bool) :
+    Type 0 where
   pub none : NoBadBelow p (last + 1)
-  pub summary : sum ≡ whole p (Bounded bound)
+  pub summary : IsSummaryAt once p bound sum
   pub within : (all ≡ true) ↔ (SomeExceeds p bound → ⊥)
   pub low : bound ≤ last
   pub ended : (bound ≡ last) ⊎ (all ≡ true)
@@ -82,7 +91,10 @@ IsFinished p bound None = bound ≡ 0
 abbrev pub IsFollowed : Program → Search → Mode → Type 0
 IsFollowed p (UpTo last) (Bounded bound) =
     (bound < last) × NoBadBelow p (bound + 1) × SomeExceeds p bound
+IsFollowed p (UpTo last) (BoundedOnce bound) =
+    (bound < last) × NoBadBelow p (bound + 1) × SomeExceeds p bound
 IsFollowed p (UpTo last) Reduced = ⊥
+IsFollowed p (UpTo last) ReducedOnce = ⊥
 IsFollowed p Unbounded mode = ⊥
 
 -- a search was cut short in a mode, before its end: an item was open, or another bound follows

@@ -35,20 +35,24 @@ pub struct Options {
     pub quota: u32,
     /// Whether to leave out, once a bad schedule is found, what can't have the first bad one.
     pub quick: bool,
+    /// Whether to try equal threads once: to leave out each step of a thread for which an equal one
+    /// of a lower number stands. It changes no Clean or Bad report but the summary's counts.
+    pub symmetry: bool,
 }
 
 impl Options {
     /// The options of a search that goes as far as `search` says, with no limit, the quota `QUOTA`,
-    /// and not quick.
+    /// not quick, and with all threads.
     pub fn new(search: Search) -> Options
         ensures { result ≡
-            record { search = search; limit = None; quota = QUOTA; quick = false } }
+            record { search = search; limit = None; quota = QUOTA; quick = false; symmetry = false } }
     {
         Options {
             search,
             limit: None,
             quota: QUOTA,
             quick: false,
+            symmetry: false,
         }
     }
 }

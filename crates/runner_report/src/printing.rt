@@ -2,7 +2,9 @@
 
 ghost use Rattle.std.specs.Prelude.{◌≡◌, IfOk, OnOk};
 ghost use Rattle.serde_json.specs.View.{view, members_view};
-ghost use Rattle.runner_report.specs.ReportText.{kind_data, cause_data, bound_data, values_data, end_data, ends_data, schedule_data, first_bad_data, with_members, common_members, clean_members, bad_members, incomplete_members, verdict_members, report_data, report_text};
+ghost use Rattle.runner_report.specs.ReportText.{kind_data, cause_data, bound_data, values_data, end_data, ends_data, schedule_data};
+ghost use Rattle.runner_report.specs.ReportText.{first_bad_data, with_members, common_members, clean_members, bad_members};
+ghost use Rattle.runner_report.specs.ReportText.{incomplete_members, verdict_members, report_data, report_text};
 
 use crate::report::{Cause, Report, Verdict};
 use replay::schedule_text;
@@ -16,7 +18,8 @@ use walk_summary::Summary;
 ///
 /// Every report has `bound` (the last that was searched, or null without a bound), `ends` (a list
 /// of the end views, each with its `kind` and the values of the variables, `vars`), the counts
-/// `failed`, `stuck` and `tried`, and `verdict`; a quick one has `"quick":true`. A clean one has
+/// `failed`, `stuck` and `tried`, and `verdict`; a quick one has `"quick":true`, one that tried equal
+/// threads once `"symmetry":true`. A clean one has
 /// `all`; a bad one `kind`, `preemptions` and `schedule`; an incomplete one `cause`, `finished` (a
 /// bound or null) and `schedule` (the summary's first bad one, or null). Schedules are in their
 /// printed spelling. Fails where memory runs out.
@@ -35,6 +38,9 @@ pub fn report_value(alloc: Global, report: &Report) -> Result<Value, AllocError>
     put_common_members(&mut members, alloc, report)?;
     if report.quick {
         put(&mut members, alloc, "quick", Value::Bool(true))?;
+    }
+    if report.symmetry {
+        put(&mut members, alloc, "symmetry", Value::Bool(true))?;
     }
     put_verdict_members(&mut members, alloc, report)?;
     Ok(Value::Object(members))

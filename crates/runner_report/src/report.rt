@@ -58,6 +58,8 @@ pub struct Report {
     pub summary: Summary,
     /// Whether the search was a quick one.
     pub quick: bool,
+    /// Whether the search tried equal threads once: the counts of the summary are of these schedules.
+    pub symmetry: bool,
 }
 
 impl Report {

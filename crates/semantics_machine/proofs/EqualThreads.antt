@@ -230,6 +230,13 @@ module _ (p : Program) (s : Snapshot) (enabled others : Mask) (last : Option ℕ
       ((λ i. can_do s (action_at (sym same i).status
       (slice_get (sym r.2.equal.code i) (sym same i).pc))) ∙ r.1) r.2.neither.1)))
 
+  -- nor one of whose code no lower one is
+  pub alone : (t : ℕ) (code : Mask) → HasSameCode p t code
+      → ((u : ℕ) → u < t → has code u ≡ false) → false ≡ is_hidden p s last t
+  alone t code same none = agree _ _ (λ e. absurd (false≢true e)) (λ e.
+      let r = (hidden_is p s last t).0 e in
+      absurd (false≢true (sym (none r.0 r.2.lower) ∙ (same r.0).1 (r.2.lower, r.2.equal.code))))
+
   -- the lower ones are others, and about to do something
   pub among : (t : ℕ) (code low : Mask) → HasSameCode p t code
       → ((u : ℕ) → has low u ≡ (has others u && has code u))

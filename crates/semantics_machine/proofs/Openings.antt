@@ -14,7 +14,7 @@ use Rattle.semantics.specs.{Mask.{has, no_threads}, declared.mask.Mask.Mask}
 use Rattle.semantics.specs.declared.state.Status.TheVariants.{Stopped}
 use Rattle.semantics.specs.declared.state.{Stop.TheVariants.Assert as FailedAssert, Thread.Thread}
 use Rattle.semantics.proofs.{Masks.empty_has, StepsKeepStates.start_is_of}
-use Rattle.semantics_machine.specs.Refinement.{HasObjects, HasThreadAt, HaveSameCode, IsControl, Shows, AreQueues, thread_or_none, locals_at, queued}
+use Rattle.semantics_machine.specs.Refinement.{HasEachWithSome, HasObjects, HasThreadAt, HaveSameCode, IsControl, Shows, AreQueues, thread_or_none, locals_at, queued}
 use Rattle.semantics_machine.specs.{Touches.AreTouches, declared.control.Control.Control}
 use Rattle.semantics_machine.specs.declared.{control.TheConstants.FREE, machine.Machine.Machine}
 use Rattle.semantics_machine.specs.declared.machine.Shape.{Shape}
@@ -208,6 +208,8 @@ opening_more p s k m n ys there h lands is more own same = record {
   wide = subst (λ x. All (λ th. All (LocalsBelow x) th.code) p.threads) (sym w) h.wide;
   touches = subst (λ (x : Shape). AreTouches p x.touches) (sym same) h.touches;
   same_code = subst (λ (x : Shape). HaveSameCode p x.same_code) (sym same) h.same_code;
+  with_equal = subst (λ (x : Shape). HasEachWithSome x.with_equal x.same_code) (sym same)
+      h.with_equal;
 }
   where
     f : n.shape.fixed ≡ m.shape.fixed
@@ -269,6 +271,7 @@ shows_start p k m fine full few h = record {
   };
   touches = h.touches;
   same_code = h.same_code;
+  with_equal = h.with_equal;
 }
   where
     many : length (start p).threads ≡ length p.threads

@@ -2,6 +2,7 @@
 use Rattle.std.specs.Prelude.{◌≡◌, ◌↔◌, ℕ, zero, suc, ◌+◌, ◌*◌, ◌^◌, ◌/◌, ◌%◌, ◌<◌, ℤ, pos, Bool, true, false, not, nat_eq, List, [], ◌∷◌, length, take, drop, slice_get, slice_index_or, All, Option, Some, None, if◌then◌else◌}
 use Rattle.std.specs.Int.{cast_unsigned, w64}
 use Rattle.guest_code.specs.Program.{Program, code_of, LocalsBelow}
+use Rattle.guest_code.specs.declared.limits.TheConstants.{THREADS}
 use Rattle.semantics.specs.Ends.{is_stopped, is_ended}
 use Rattle.semantics.specs.Machine.{Snapshot, thread_at, can_do, action_at, initial_thread}
 use Rattle.semantics.specs.{Mask.{has, no_threads}, Reachable.IsOf, declared.mask.Mask.Mask}
@@ -147,12 +148,18 @@ abbrev pub HaveSameCode : Program → List Mask → Type 0
 HaveSameCode p sets = (t : ℕ) → t < length p.threads
     → HasSameCode p t (slice_index_or sets t no_threads)
 
+-- a thread that isn't in the set has an empty set of its own
+abbrev pub HasEachWithSome : Mask → List Mask → Type 0
+HasEachWithSome some sets = (t u : ℕ) → t < THREADS → has some t ≡ false → u < THREADS
+    → has (slice_index_or sets t no_threads) u ≡ false
+
 -- and the shape is the program's
 pub record IsShown (p : Program) (shape : Shape) (c : Control) (values : List ℤ) (s : Snapshot)
     : Type 0 where
   pub state : IsState p shape.fixed shape.width c values s
   pub touches : AreTouches p shape.touches
   pub same_code : HaveSameCode p shape.same_code
+  pub with_equal : HasEachWithSome shape.with_equal shape.same_code
 
 -- the machine shows the state
 abbrev pub Shows : Program → Machine → Snapshot → Type 0

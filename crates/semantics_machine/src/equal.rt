@@ -1,13 +1,13 @@
 //! Which threads are hidden: for which one of a lower number stands, that is equal to them.
 
-ghost use Rattle.std.specs.Prelude.{◌≡◌, ◌≢◌, ◌<◌, ◌&&◌, ◌↔◌, ℕ, true, not, length, take, IsTrue, Some};
+ghost use Rattle.std.specs.Prelude.{◌≡◌, ◌≢◌, ◌<◌, ◌&&◌, ◌↔◌, ℕ, true, not, length, take, IsTrue, Some, slice_index_or};
 ghost use Rattle.guest_code.specs.Program.{Program, code_of};
 ghost use Rattle.guest_code.specs.declared.limits.TheConstants.{THREADS};
 ghost use Rattle.semantics.specs.Machine.{Snapshot, thread_at, owner_of};
-ghost use Rattle.semantics.specs.Mask.{HasEnabled, has, mask_of};
+ghost use Rattle.semantics.specs.Mask.{HasEnabled, has};
 ghost use Rattle.semantics_schedules.specs.EqualThreads.{is_hidden, is_last};
 ghost use Rattle.semantics_schedules.specs.Renaming.{swapped, Renamed};
-ghost use Rattle.semantics_machine.specs.{Refinement.{Shows, HasSameCode, HaveSameCode}, inner.Alike.IsAbout};
+ghost use Rattle.semantics_machine.specs.{Refinement.{Shows, HasSameCode, HaveSameCode, HasEachWithSome}, inner.Alike.IsAbout};
 
 use crate::machine::Machine;
 use guest_code::limits::THREADS;
@@ -39,6 +39,18 @@ pub(crate) fn same_code(program: &Program) -> [Mask; THREADS]
     lower
 }
 
+/// The threads whose own one of these sets isn't empty.
+pub(crate) fn with_some(sets: &[Mask; THREADS]) -> Mask
+    ensures { HasEachWithSome result sets.now }
+{
+    let mut some = Mask::empty();
+    for thread in 0..THREADS as u8 {
+        let first = sets[thread as usize].first_from(0);
+        some = some.with(thread, first.is_some());
+    }
+    some
+}
+
 // A set of threads without one of them, if there is one.
 fn without(mask: Mask, thread: Option<u8>) -> Mask
     ensures { (t : ℕ) → has result t ≡ (has mask t && not (is_last thread t)) }
@@ -54,6 +66,22 @@ fn common(first: Mask, second: Mask) -> Mask
     ensures { (t : ℕ) → has result t ≡ (has first t && has second t) }
 {
     first.difference(first.difference(second))
+}
+
+// Whether two lists of values are equal. With `==` a search would compare end views more slowly:
+// that comparison would be compiled once for both, and not in line.
+fn same_values(first: &[i64], second: &[i64]) -> bool
+    ensures { IsTrue result ↔ (first.now ≡ second.now) }
+{
+    if first.len() != second.len() {
+        return false;
+    }
+    for place in 0..first.len() {
+        if first[place] != second[place] {
+            return false;
+        }
+    }
+    true
 }
 
 impl Machine {
@@ -80,6 +108,7 @@ impl Machine {
 
     // Whether two threads that are about to do something can be swapped, and nothing changes but
     // which code they run: they are at one place, with the same locals, and own no mutex.
+    #[inline(always)]
     fn are_alike(&self, program: &Program, first: u8, second: u8) -> bool
         requires about { (s : Snapshot) × Shows program.now self.now s
             × IsAbout program.now s first × IsAbout program.now s second }
@@ -91,6 +120,21 @@ impl Machine {
         if self.control.places[first as usize] != self.control.places[second as usize] {
             return false;
         }
+        self.are_alike_here(program, first, second)
+    }
+
+    // Whether they can, where they are at one place.
+    #[inline(never)]
+    fn are_alike_here(&self, program: &Program, first: u8, second: u8) -> bool
+        requires about { (s : Snapshot) × Shows program.now self.now s
+            × IsAbout program.now s first × IsAbout program.now s second }
+        requires two { first ≢ second }
+        requires here { slice_index_or self.now.control.places first 0
+            ≡ slice_index_or self.now.control.places second 0 }
+        ensures { (s : Snapshot) → Shows program.now self.now s
+            → IsAbout program.now s first → IsAbout program.now s second
+            → (IsTrue result ↔ Renamed (swapped first second) s s) }
+    {
         if self.control.woken.has(first) != self.control.woken.has(second) {
             return false;
         }
@@ -100,10 +144,11 @@ impl Machine {
         if self.owns_some(second) {
             return false;
         }
-        self.locals(program, first) == self.locals(program, second)
+        same_values(self.locals(program, first), self.locals(program, second))
     }
 
     // Whether a thread can be swapped so with one of these.
+    #[inline(always)]
     fn is_alike_to_one(&self, program: &Program, among: Mask, thread: u8) -> bool
         requires { (s : Snapshot) × Shows program.now self.now s × IsAbout program.now s thread
             × ((u : ℕ) → has among u ≡ true → (u ≢ thread) × IsAbout program.now s u) }
@@ -121,21 +166,24 @@ impl Machine {
         false
     }
 
-    /// The threads that are hidden where these are enabled, after a step of the thread `last` or of
-    /// none: for which an enabled one of a lower number stands, that is equal to them.
-    pub fn hidden(&self, program: &Program, enabled: Mask, last: Option<u8>) -> Mask
+    /// The threads of `asked` that aren't hidden where these are enabled, after a step of the thread
+    /// `last` or of none: no enabled one of a lower number stands for them, that is equal to them.
+    #[inline(always)]
+    pub fn seen(&self, program: &Program, enabled: Mask, asked: Mask, last: Option<u8>) -> Mask
         requires { (s : Snapshot) × Shows program.now self.now s × HasEnabled enabled program.now s }
         ensures { (s : Snapshot) → Shows program.now self.now s → HasEnabled enabled program.now s
-            → result ≡ mask_of (is_hidden program.now s last) }
+            → (t : ℕ) → has result t ≡ (has asked t && not (is_hidden program.now s last t)) }
     {
         let others = without(enabled, last);
-        let mut hidden = Mask::empty();
-        let mut left = others;
+        let mut seen = asked;
+        let asked_others = common(others, asked);
+        let mut left = common(asked_others, self.shape.with_equal);
         while let Some(thread) = left.first_from(0) {
             let lower = common(others, self.shape.same_code[thread as usize]);
-            hidden = hidden.with(thread, self.is_alike_to_one(program, lower, thread));
+            let is_hidden = self.is_alike_to_one(program, lower, thread);
+            seen = seen.with(thread, !is_hidden);
             left = left.with(thread, false);
         }
-        hidden
+        seen
     }
 }

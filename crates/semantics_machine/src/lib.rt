@@ -12,7 +12,7 @@
 //! - [`Machine::run`] shows the state after a thread's step, or further ones while the same threads
 //!   stay enabled, or any.
 //! - [`Machine::enabled`], [`Machine::kind`], [`Machine::variables`],
-//!   [`Machine::sleep_set_after`] and [`Machine::hidden`] answer what the definitions say of the
+//!   [`Machine::sleep_set_after`] and [`Machine::seen`] answer what the definitions say of the
 //!   state.
 //! - [`Machine::restore`] shows a state again of which a [`Control`] and its values were copied.
 //!

@@ -12,7 +12,7 @@ ghost use Rattle.semantics_machine.specs.declared.machine.Machine.{Machine};
 ghost use Rattle.semantics_machine.specs.inner.Opening.{IsOpening};
 
 use crate::control::Control;
-use crate::equal::same_code;
+use crate::equal::{same_code, with_some};
 use crate::touch::{Touch, Touches};
 use guest_code::limits::{LOCALS, OBJECTS, THREADS, VARIABLES};
 use guest_code::program::Program;
@@ -48,6 +48,8 @@ pub struct Shape {
     pub(crate) touches: Touches,
     /// For each thread the threads of lower numbers that have the same code.
     pub(crate) same_code: [Mask; THREADS],
+    /// The threads for which there are some.
+    pub(crate) with_equal: Mask,
 }
 
 /// How far a run of a thread may go.
@@ -125,6 +127,7 @@ impl Machine {
         values.extend_from_slice(state.variables())?;
         values.extend_from_slice(&[0; OBJECTS][..program.conditions() as usize])?;
         let touches = Touches::of(alloc, program)?;
+        let same_code = same_code(program);
         let mut machine = Machine {
             control: Control::without_threads(program),
             values,
@@ -132,7 +135,8 @@ impl Machine {
                 fixed: program.variables() as usize,
                 width: most_locals(program),
                 touches,
-                same_code: same_code(program),
+                with_equal: with_some(&same_code),
+                same_code,
             },
         };
         for t in 0..program.threads() {

@@ -89,6 +89,7 @@ const ONE_BY_ONE: Options = Options {
     limit: None,
     quota: 1,
     quick: false,
+    symmetry: false,
 };
 
 // The report, as a text, of a search of a text's program by two workers, one schedule a walk.

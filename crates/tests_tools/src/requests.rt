@@ -44,8 +44,8 @@ fn parse_number(word: &str, most: u32) -> Option<u32>
     }
 }
 
-// The search that `words[2..7]` ask for: a bound or `unbounded`, `quick` or another word, the
-// workers, the schedules a walk and the limit, 0 for none. `None` where one is missing or wrong.
+// The search that `words[2..7]` ask for: a bound or `unbounded`, `quick`, `once`, `quick-once` (with
+// equal threads once) or another word, the workers, the schedules a walk and the limit, 0 for none. `None` where one is missing or wrong.
 fn parse_exploration(words: &[String]) -> Option<Exploration> {
     let search = parse_search(words.get(2)?.as_str())?;
     let limit: u64 = words.get(6)?.as_str().parse().ok()?;
@@ -55,7 +55,8 @@ fn parse_exploration(words: &[String]) -> Option<Exploration> {
         search,
         limit: if limit == 0 { None } else { Some(limit) },
         quota,
-        quick: words.get(3)?.as_str() == "quick",
+        quick: words.get(3)?.as_str().starts_with("quick"),
+        symmetry: words.get(3)?.as_str().ends_with("once"),
     };
     Some(Exploration {
         options,

@@ -2,22 +2,23 @@
 use Rattle.std.proofs.Common.{◌≡◌, ℕ, ◌+◌, ◌-◌, ◌<◌, ◌≤◌, Bool, true, false, ◌&&◌, ◌||◌, not, List}
 use Rattle.std.proofs.Common.{[], ◌∷◌, ◌++◌, length, take, map, ap, refl, ◌∙◌, sym, arith, subst}
 use Rattle.std.proofs.Common.{min}
-use Rattle.std.{specs.List.filter, proofs.Math.Bool.or-false}
+use Rattle.std.{specs.List.filter, proofs.{Math.Bool.or-false, lemmas.Bool.false≢true}}
 use Rattle.guest_code.specs.Program.{Program}
 use Rattle.semantics.specs.Ends.{is_terminal, is_empty, view_at}
 use Rattle.semantics.specs.Machine.{Snapshot, start, is_enabled}
 use Rattle.semantics.specs.Mask.{has, members_from, no_threads, HasEnabled}
 use Rattle.semantics.specs.{Reachable.IsOf, View.View, Work.work, declared.mask.Mask.Mask}
 use Rattle.semantics.proofs.{Masks.{empty_has, members_over}, WorkFalls.work-step}
-use Rattle.walk_items.specs.Children.{state_of, IsWithin, is_kept_step, kept_steps, past_steps}
+use Rattle.walk_items.specs.Children.{state_of, IsWithin, is_hidden_after, is_kept_step, kept_steps, past_steps}
 use Rattle.walk_items.specs.Children.{passes_bound, child_of, children_of, children, cost_of, costs}
 use Rattle.walk_items.specs.{Items.{ItemView, IsItem}, Walks.{IsWalked, items_at}}
-use Rattle.walk_items.specs.declared.mode.Mode.{Mode, TheVariants.{Bounded, Reduced}}
+use Rattle.walk_items.specs.declared.mode.Mode.{Mode, TheVariants.{Bounded, Reduced, BoundedOnce, ReducedOnce}}
 use Rattle.walk_items.proofs.Turns.{costs-append, cost_two, children_cost, turns_more}
 use Rattle.walk.specs.declared.{found.Found.Found, path.Node.Node, path.Path.Path}
 use Rattle.walk.specs.inner.Paths.{used_frames, IsNode, IsPath, state_at}
 use Rattle.walk.specs.inner.WalkerInvariant.{item_of, here, left_above, still_open, turns_left}
-use Rattle.walk.specs.inner.WalkerInvariant.{turns_from, turns_into, is_kept_at, is_past_at}
+use Rattle.walk.specs.inner.WalkerInvariant.{turns_from, turns_into, is_past_at, is_kept_at}
+use Rattle.walk.specs.inner.WalkerInvariant.{is_tried_at, is_put_off_at}
 use Rattle.walk.specs.inner.WalkerInvariant.{IsWithinAt, open_from, IsPlace, HasPut, IsWalkedOn}
 use Rattle.walk.specs.inner.WalkerInvariant.{IsSearch, IsPushedIfOpen, IsPushed, open_here}
 use Rattle.walk.specs.inner.WalkerInvariant.{open_below, open_next}
@@ -87,17 +88,33 @@ left_turned mode p old new o = λ i. open_from mode p (o.steps i) (o.frames i) (
 pub here_turned : (p : Program) (old new : Path) → IsTurned old new → here p new ≡ here p old
 here_turned p old new o = λ i. record { program = p; prefix = o.steps i; mask = o.asleep i }
 
+pub both_of : (a b c : Bool) → ((a && b) && c) ≡ (a && (b && c))
+both_of true b c = refl
+both_of false b c = refl
+
 -- the node's preemptions are within the bound
 pub within_at : (mode : Mode) (p : Program) (t : Path) → IsPath p t → IsWithin mode (here p t)
     → IsWithinAt mode t.node
 within_at (Bounded bound) p t h fits =
     subst (λ (k : ℕ). k ≤ bound) (sym h.reaches.preemptions) fits
 within_at Reduced p t h fits = tt
+within_at (BoundedOnce bound) p t h fits =
+    subst (λ (k : ℕ). k ≤ bound) (sym h.reaches.preemptions) fits
+within_at ReducedOnce p t h fits = tt
+
+-- who is tried: who is awake and isn't hidden
+pub tried_at : (mode : Mode) (c : ItemView) (e awake todo : Mask) (n : Node)
+    → ((t : ℕ) → has awake t ≡ (has e t && is_kept_at mode e n t))
+    → ((t : ℕ) → has todo t ≡ (has awake t && not (is_hidden_after mode c t)))
+    → (t : ℕ) → has todo t ≡ (has e t && is_tried_at mode c e n t)
+tried_at mode c e awake todo n kept seen t = seen t
+    ∙ (ap (λ b. b && not (is_hidden_after mode c t)) (kept t)
+    ∙ both_of (has e t) (is_kept_at mode e n t) (not (is_hidden_after mode c t)))
 
 -- its children are open
 open_opened : (mode : Mode) (p : Program) (old new : Path) (e : Mask) → IsPlace p old →
     AreOn p old e → IsTurned old new →
-    ((t : ℕ) → has new.node.todo t ≡ (has e t && is_kept_at mode e old.node t)) →
+    ((t : ℕ) → has new.node.todo t ≡ (has e t && is_tried_at mode (here p old) e old.node t)) →
     still_open mode p new ≡ children mode (here p old) ++ left_above mode p old
 open_opened mode p old new e h on o kept =
     let members : members_from new.node.todo 0 ≡ kept_steps mode (here p old) =
@@ -139,7 +156,7 @@ pub past_deferred : {b : Found} (mode : Mode) (i : ItemView) (w : List ℕ) (n :
     (e past : Mask) (above : List ItemView) →
     IsWalkedOn b mode i f (item_of i.program w n ∷ above) → IsNode i.program w e n →
     IsOf i.program (state_at i.program w) → is_terminal i.program (state_at i.program w) ≡ false →
-    ((u : ℕ) → has past u ≡ (has e u && is_past_at mode e n u)) →
+    ((u : ℕ) → has past u ≡ (has e u && is_put_off_at mode (item_of i.program w n) e n u)) →
     g.part ≡ with_beyond f.part (f.part.beyond || not (is_empty (members_from past 0))) →
     g.rest.items ≡ f.rest.items →
     HasPut f (map (λ u. w ++ u ∷ []) (members_from past 0)) g →
@@ -174,11 +191,17 @@ past_deferred {b} mode i w n f g e past above h node of more passed part rest pu
     beside : List ℕ → List (List ℕ)
     beside ts = map (λ u. w ++ u ∷ []) ts
 
+-- no step passes the bound, so none is put off
+none_put : (on past seen : Bool) → (on && past) ≡ false → (on && (past && seen)) ≡ false
+none_put true true seen h = absurd (false≢true (sym h))
+none_put true false seen h = refl
+none_put false past seen h = refl
+
 -- so the walk is at its first child
 pub expanded_node : {b : Found} (mode : Mode) (i : ItemView) (old new : Path) (f : Found) (e : Mask)
     (u : ℕ) (us : List ℕ) → IsSearch b mode i old f (open_here mode i.program old) →
     AreOn i.program old e → IsTurned old new →
-    ((t : ℕ) → has new.node.todo t ≡ (has e t && is_kept_at mode e old.node t)) →
+    ((t : ℕ) → has new.node.todo t ≡ (has e t && is_tried_at mode (here i.program old) e old.node t)) →
     ((t : ℕ) → (has e t && is_past_at mode e old.node t) ≡ false) →
     members_from e 0 ≡ u ∷ us → new.depth ≤ length new.frames.items
     → IsSearch b mode i new f (still_open mode i.program new)
@@ -192,7 +215,7 @@ expanded_node {b} mode i old new f e u us h on o kept free some room =
           h.walked
           (node_of p old e h.place.path on) (of_here p old h.place.path)
           (here_goes_on p old e u us h.place.path on some)
-          (λ t. empty_has t ∙ sym (free t))
+          (λ t. empty_has t ∙ sym (none_put (has e t) _ _ (free t)))
           (ap (with_beyond f.part) (sym (ap (λ (ts : List ℕ). f.part.beyond || not (is_empty ts))
           none ∙ or-false f.part.beyond)))
           refl
@@ -208,7 +231,7 @@ expanded_node {b} mode i old new f e u us h on o kept free some room =
 pub expanded_leaf : {b : Found} (mode : Mode) (i : ItemView) (old new : Path) (f g : Found)
     (e : Mask) (w : List ℕ) (v : View) → IsSearch b mode i old f (open_here mode i.program old) →
     AreOn i.program old e → IsTurned old new →
-    ((t : ℕ) → has new.node.todo t ≡ (has e t && is_kept_at mode e old.node t)) →
+    ((t : ℕ) → has new.node.todo t ≡ (has e t && is_tried_at mode (here i.program old) e old.node t)) →
     members_from e 0 ≡ [] → w ≡ old.steps.items
     → v ≡ view_at (state_at i.program old.steps.items) →
     g ≡ record f { part = g.part } → g.part ≡ added f.part w v →
@@ -235,7 +258,7 @@ expanded_leaf {b} mode i old new f g e w v h on o kept none schedule view same p
 -- how far there is to go then
 pub falls_node : (mode : Mode) (p : Program) (old new : Path) (e : Mask) (u : ℕ) (us : List ℕ)
     → IsPlace p old → AreOn p old e → IsTurned old new →
-    ((t : ℕ) → has new.node.todo t ≡ (has e t && is_kept_at mode e old.node t)) →
+    ((t : ℕ) → has new.node.todo t ≡ (has e t && is_tried_at mode (here p old) e old.node t)) →
     members_from e 0 ≡ u ∷ us →
     turns_left mode p new + 2 ≤ turns_from mode p old
 unfolding turns_left turns_from
@@ -249,7 +272,7 @@ falls_node mode p old new e u us h on o kept some =
 
 pub falls_leaf : (mode : Mode) (p : Program) (old new : Path) (e : Mask) → IsPlace p old
     → AreOn p old e → IsTurned old new →
-    ((t : ℕ) → has new.node.todo t ≡ (has e t && is_kept_at mode e old.node t)) →
+    ((t : ℕ) → has new.node.todo t ≡ (has e t && is_tried_at mode (here p old) e old.node t)) →
     members_from e 0 ≡ [] →
     turns_left mode p new + 2 ≤ turns_from mode p old
 unfolding turns_left turns_from

@@ -10,16 +10,17 @@ use Rattle.semantics.specs.{Mask.{has, members_from, one_if}, Reachable.IsOf, Wo
 use Rattle.semantics.{specs.declared.mask.Mask.Mask, proofs.TerminalStates.is_terminal-some}
 use Rattle.semantics.proofs.WorkFalls.{enabled_below}
 use Rattle.walk_items.specs.Children.{is_kept_step, kept_steps, child_of, children_of, children}
+use Rattle.walk_items.specs.Children.{is_hidden_after}
 use Rattle.walk_items.specs.{Items.ItemView, declared.mode.Mode.Mode}
-use Rattle.walk_items.specs.declared.mode.Mode.TheVariants.{Bounded, Reduced}
-use Rattle.walk_items.proofs.Filters.{filter_twice}
+use Rattle.walk_items.specs.declared.mode.Mode.TheVariants.{Bounded, Reduced, BoundedOnce, ReducedOnce}
+use Rattle.walk_items.proofs.{Filters.filter_twice, HiddenSteps.lone_once}
 use Rattle.walk.specs.declared.{found.Found.Found, path.Node.Node, path.Path.Path}
 use Rattle.walk.specs.inner.Paths.{is_preempting, preempts_last, state_at, IsNode}
-use Rattle.walk.specs.inner.WalkerInvariant.{item_of, left_above, is_kept_at, is_past_at}
+use Rattle.walk.specs.inner.WalkerInvariant.{item_of, here, left_above, is_kept_at, is_past_at, is_put_off_at}
 use Rattle.walk.specs.inner.WalkerInvariant.{IsWithinAt, IsFree, at_bound, IsAtBound, IsSearch}
 use Rattle.walk.specs.inner.WalkerInvariant.{HasPut, IsShared, IsWalkedOn, open_here, open_below}
-use Rattle.walk.proofs.Expansions.{AreOn, node_of, past_deferred, IsTurned, place_turned, left_turned, here_turned, of_here, turned_here}
-use Rattle.walk.proofs.{SharedSteps.shared_same, WalkTurns.{filter_alike, kept_alike}}
+use Rattle.walk.proofs.Expansions.{AreOn, node_of, past_deferred, IsTurned, place_turned, left_turned, here_turned, of_here, turned_here, both_of}
+use Rattle.walk.proofs.{SharedSteps.shared_same, WalkTurns.{filter_alike, kept_alike, and_true}}
 use Rattle.walk_summary.specs.Summaries.{with_beyond}
 
 -- a number stands once among those from a first one on
@@ -99,7 +100,8 @@ module _ (bound : ℕ) (p : Program) (w : List ℕ) (e : Mask) (n : Node) (t : �
   lone_on = sym (h.enabled t) ∙ on
 
   kept_is : (u : ℕ) → is_kept_step (Bounded bound) (item_of p w n) u ≡ nat_eq t u
-  kept_is u = sym (kept_alike (Bounded bound) p w e n h u) ∙ lone_kept bound e n t last used on u
+  kept_is u = sym (kept_alike (Bounded bound) p w e n h u)
+      ∙ (and_true _ ∙ lone_kept bound e n t last used on u)
 
   both : (a b : Bool) → (b ≡ true → a ≡ true) → (a && b) ≡ b
   both true b f = refl
@@ -149,63 +151,91 @@ left_so false false h on = on
 pub at_bound_is : (mode : Mode) (n : Node) → at_bound mode n ≡ true → IsAtBound mode n
 at_bound_is (Bounded bound) n h = grind (arith, nat_tests, h)
 at_bound_is Reduced n h = absurd (false≢true h)
+at_bound_is (BoundedOnce bound) n h = grind (arith, nat_tests, h)
+at_bound_is ReducedOnce n h = absurd (false≢true h)
+
+-- its one child, also with equal threads once
+lone_kids : (mode : Mode) (p : Program) (w : List ℕ) (e : Mask) (n : Node) (t : ℕ) → IsNode p w e n
+    → n.last ≡ Some t → IsAtBound mode n → has e t ≡ true
+    → kept_steps mode (item_of p w n) ≡ t ∷ []
+lone_kids (Bounded bound) p w e n t h last used on = lone_steps bound p w e n t h last used on
+lone_kids Reduced p w e n t h last used on = absurd used
+lone_kids (BoundedOnce bound) p w e n t h last used on =
+    lone_once bound (item_of p w n) t (sym h.reaches.last ∙ last)
+    (lone_steps bound p w e n t h last used on)
+lone_kids ReducedOnce p w e n t h last used on = absurd used
+
+-- and who is put off then: the others, but for the hidden ones
+lone_off : (mode : Mode) (c : ItemView) (e others past : Mask) (n : Node) (t : ℕ)
+    → n.last ≡ Some t → IsAtBound mode n → has e t ≡ true → has others t ≡ false
+    → ((u : ℕ) → u ≢ t → has others u ≡ has e u)
+    → ((u : ℕ) → has past u ≡ (has others u && not (is_hidden_after mode c u)))
+    → (u : ℕ) → has past u ≡ (has e u && is_put_off_at mode c e n u)
+lone_off (Bounded bound) c e others past n t last used on out same seen u = seen u
+    ∙ (ap (λ b. b && true) (lone_past bound e others n t last used on out same u)
+    ∙ both_of (has e u) _ true)
+lone_off Reduced c e others past n t last used on out same seen u = absurd used
+lone_off (BoundedOnce bound) c e others past n t last used on out same seen u = seen u
+    ∙ (ap (λ b. b && not (is_hidden_after (BoundedOnce bound) c u))
+    (lone_past bound e others n t last used on out same u)
+    ∙ both_of (has e u) _ (not (is_hidden_after (BoundedOnce bound) c u)))
+lone_off ReducedOnce c e others past n t last used on out same seen u = absurd used
 
 -- it gives way to it, and the steps of the others are put off
-pub lone_walked : {b : Found} (bound : ℕ) (i : ItemView) (w : List ℕ) (n : Node) (f g : Found)
-    (e past : Mask) (t : ℕ) (above : List ItemView) →
-    IsWalkedOn b (Bounded bound) i f (item_of i.program w n ∷ above) → IsNode i.program w e n →
-    IsOf i.program (state_at i.program w) → n.last ≡ Some t → n.used ≡ bound → has e t ≡ true →
-    has past t ≡ false → ((u : ℕ) → u ≢ t → has past u ≡ has e u) →
+pub lone_walked : {b : Found} (mode : Mode) (i : ItemView) (w : List ℕ) (n : Node) (f g : Found)
+    (e others past : Mask) (t : ℕ) (above : List ItemView) →
+    IsWalkedOn b mode i f (item_of i.program w n ∷ above) → IsNode i.program w e n →
+    IsOf i.program (state_at i.program w) → n.last ≡ Some t → IsAtBound mode n → has e t ≡ true →
+    has others t ≡ false → ((u : ℕ) → u ≢ t → has others u ≡ has e u) →
+    ((u : ℕ) → has past u
+    ≡ (has others u && not (is_hidden_after mode (item_of i.program w n) u))) →
     g.part ≡ with_beyond f.part (f.part.beyond || not (is_empty (members_from past 0))) →
     g.rest ≡ f.rest →
     HasPut f (map (λ u. w ++ u ∷ []) (members_from past 0)) g →
-    IsWalkedOn b (Bounded bound) i g (child_of (Bounded bound) (item_of i.program w n) t ∷ above)
-lone_walked {b} bound i w n f g e past t above h node of last used on out same part rest put =
-    subst (λ (cs : List ItemView). IsWalkedOn b (Bounded bound) i g (cs ++ above)) kids
-    (past_deferred (Bounded bound) i w n f g e past above h node of more
-    (lone_past bound e past n t last used on out same) part
+    IsWalkedOn b mode i g (child_of mode (item_of i.program w n) t ∷ above)
+lone_walked {b} mode i w n f g e others past t above h node of last used on out same seen part rest
+    put = subst (λ (cs : List ItemView). IsWalkedOn b mode i g (cs ++ above)) kids
+    (past_deferred mode i w n f g e past above h node of more
+    (lone_off mode (item_of i.program w n) e others past n t last used on out same seen) part
     (ap (λ (r : Vec ItemView Global). r.items) rest) put)
   where
-    kids : children (Bounded bound) (item_of i.program w n)
-        ≡ child_of (Bounded bound) (item_of i.program w n) t ∷ []
-    kids = ap (children_of (Bounded bound) (item_of i.program w n))
-        (lone_steps bound i.program w e n t node last used on)
+    kids : children mode (item_of i.program w n) ≡ child_of mode (item_of i.program w n) t ∷ []
+    kids = ap (children_of mode (item_of i.program w n))
+        (lone_kids mode i.program w e n t node last used on)
 
     more : is_terminal i.program (state_at i.program w) ≡ false
     more = is_terminal-some i.program (state_at i.program w) t (sym (node.enabled t) ∙ on)
 
 -- so a walk is that may take only that step
 pub lone_search : {b : Found} (mode : Mode) (i : ItemView) (old : Path) (steps : Vec ℕ Global)
-    (f g : Found) (e past : Mask) (t : ℕ) → IsSearch b mode i old f (open_here mode i.program old) →
+    (f g : Found) (e others past : Mask) (t : ℕ)
+    → IsSearch b mode i old f (open_here mode i.program old) →
     AreOn i.program old e → steps.items ≡ old.steps.items → old.node.last ≡ Some t →
     (at_bound mode old.node && has e t) ≡ true →
-    has past t ≡ false → ((u : ℕ) → u ≢ t → has past u ≡ has e u) →
+    has others t ≡ false → ((u : ℕ) → u ≢ t → has others u ≡ has e u) →
+    ((u : ℕ) → has past u
+    ≡ (has others u && not (is_hidden_after mode (here i.program old) u))) →
     g.part ≡ with_beyond f.part (f.part.beyond || not (is_empty (members_from past 0))) →
     g.rest ≡ f.rest →
     HasPut f (map (λ u. old.steps.items ++ u ∷ []) (members_from past 0)) g →
     IsShared old.steps.items g →
     IsSearch b mode i (record old { steps = steps }) g
     (open_below mode i.program (record old { steps = steps }) t)
-lone_search Reduced i old steps f g e past t h are same last alone out others part rest put shared =
-    absurd (at_bound_is Reduced old.node (and_left false (has e t) alone))
-lone_search {b} (Bounded bound) i old steps f g e past t h are same last alone out others part rest
+lone_search {b} mode i old steps f g e others past t h are same last alone out apart seen part rest
     put shared = record {
       place = place_turned p old new h.place turned h.place.path.room;
       walked = subst (IsWalkedOn b mode i g)
           (λ k. child_of mode (sym (here_turned p old new turned) k) t
           ∷ sym (left_turned mode p old new turned) k)
-          (lone_walked bound i old.steps.items old.node f g e past t (left_above mode p old)
+          (lone_walked mode i old.steps.items old.node f g e others past t (left_above mode p old)
           h.walked (node_of p old e h.place.path are) (of_here p old h.place.path) last
           (at_bound_is mode old.node (and_left (at_bound mode old.node) (has e t) alone))
-          (and_right (at_bound mode old.node) (has e t) alone) out others part rest put);
+          (and_right (at_bound mode old.node) (has e t) alone) out apart seen part rest put);
       shared = shared_same old.steps.items steps.items g shared same;
     }
   where
     p : Program
     p = i.program
-
-    mode : Mode
-    mode = Bounded bound
 
     new : Path
     new = record old { steps = steps }
@@ -235,20 +265,34 @@ none_in : (b x : Bool) → x ≡ false → (b && x) ≡ false
 none_in true x h = h
 none_in false x h = refl
 
-pub free_alone : (mode : Mode) (p : Program) (t : Path) (u : ℕ) → IsWithinAt mode t.node
+free_alone_at : (bound : ℕ) (p : Program) (t : Path) (u : ℕ) → t.node.used ≤ bound
     → t.node.last ≡ Some u
-    → (at_bound mode t.node && is_enabled p (state_at p t.steps.items) u) ≡ false
-    → IsFree mode p t
-free_alone (Bounded bound) p t u within last h = λ e on v.
+    → (nat_eq t.node.used bound && is_enabled p (state_at p t.steps.items) u) ≡ false
+    → IsFree (Bounded bound) p t
+free_alone_at bound p t u within last h = λ e on v.
     none_in (has e v) _ ((λ k. nat_lt bound (t.node.used + one_if
     ((ap (λ (l : Option ℕ). preempts_last l e v) last ∙ ap (λ b. b && not (nat_eq u v)) (on u)) k)))
     ∙ never_past bound t.node.used (is_enabled p (state_at p t.steps.items) u) (not (nat_eq u v))
     within h)
+
+pub free_alone : (mode : Mode) (p : Program) (t : Path) (u : ℕ) → IsWithinAt mode t.node
+    → t.node.last ≡ Some u
+    → (at_bound mode t.node && is_enabled p (state_at p t.steps.items) u) ≡ false
+    → IsFree mode p t
+free_alone (Bounded bound) p t u within last h = free_alone_at bound p t u within last h
 free_alone Reduced p t u within last h = λ e on v. none_in (has e v) false refl
+free_alone (BoundedOnce bound) p t u within last h = free_alone_at bound p t u within last h
+free_alone ReducedOnce p t u within last h = λ e on v. none_in (has e v) false refl
+
+free_first_at : (bound : ℕ) (p : Program) (t : Path) → t.node.used ≤ bound
+    → t.node.last ≡ None → IsFree (Bounded bound) p t
+free_first_at bound p t within last = λ e on v.
+    none_in (has e v) _ ((λ k. nat_lt bound (t.node.used + one_if (preempts_last (last k) e v)))
+    ∙ (let z : nat_lt bound (t.node.used + 0) ≡ false = grind (arith, nat_tests, within) in z))
 
 pub free_first : (mode : Mode) (p : Program) (t : Path) → IsWithinAt mode t.node
     → t.node.last ≡ None → IsFree mode p t
-free_first (Bounded bound) p t within last = λ e on v.
-    none_in (has e v) _ ((λ k. nat_lt bound (t.node.used + one_if (preempts_last (last k) e v)))
-    ∙ (let z : nat_lt bound (t.node.used + 0) ≡ false = grind (arith, nat_tests, within) in z))
+free_first (Bounded bound) p t within last = free_first_at bound p t within last
 free_first Reduced p t within last = λ e on v. none_in (has e v) false refl
+free_first (BoundedOnce bound) p t within last = free_first_at bound p t within last
+free_first ReducedOnce p t within last = λ e on v. none_in (has e v) false refl

@@ -12,11 +12,11 @@ use Rattle.semantics.proofs.WorkFalls.{work-step, disabled_past}
 use Rattle.semantics_schedules.proofs.UnfoldingUnderPrefix.{state_after-push}
 use Rattle.semantics_machine.specs.declared.machine.Run.{Run}
 use Rattle.walk_summary.specs.Summaries.{with_beyond}
-use Rattle.walk_items.specs.Children.{child_of, mask_after, cost_of, costs}
+use Rattle.walk_items.specs.Children.{child_of, is_hidden_after, mask_after, cost_of, costs}
 use Rattle.walk_items.specs.{Items.ItemView, Walks.listed_if, declared.mode.Mode.Mode}
-use Rattle.walk_items.specs.declared.mode.Mode.TheVariants.{Bounded, Reduced}
+use Rattle.walk_items.specs.declared.mode.Mode.TheVariants.{Bounded, Reduced, BoundedOnce, ReducedOnce}
 use Rattle.walk_items.proofs.Turns.{turns_more}
-use Rattle.walk.specs.declared.{found.Found.Found, path.Path.Path}
+use Rattle.walk.specs.declared.{found.Found.Found, path.Node.Node, path.Path.Path}
 use Rattle.walk.specs.inner.Paths.{used_frames, state_at, IsNode, IsPath, ReachesNode}
 use Rattle.walk.specs.inner.WalkerInvariant.{item_of, here, left_above, at_bound, open_here}
 use Rattle.walk.specs.inner.WalkerInvariant.{open_below, turns_from, turns_into, IsPlace, IsShared}
@@ -59,34 +59,43 @@ along_begun {b} mode i old new f u asleep run h extended mask = record {
       (first_step i.program mode old new u asleep run extended);
 }
 
+-- at the bound nobody sleeps
+same_mask : (mode : Mode) (n : Node) (c d : ItemView) (u : ℕ) → at_bound mode n ≡ true
+    → mask_after mode c u ≡ mask_after mode d u
+same_mask (Bounded bound) n c d u h = refl
+same_mask Reduced n c d u h = absurd (false≢true h)
+same_mask (BoundedOnce bound) n c d u h = refl
+same_mask ReducedOnce n c d u h = absurd (false≢true h)
+
 -- at a node between, the steps of the others are put off, and it gives way to the next
 pub along_next : {b : Found} (mode : Mode) (i c : ItemView) (t : Path) (f g : Found)
-    (e past : Mask) (u place : ℕ) → IsAlong b mode i t f place
+    (e others past : Mask) (u place : ℕ) → IsAlong b mode i t f place
     → take (place + 1) t.steps.items ≡ take place t.steps.items ++ u ∷ []
     → IsNode i.program (take place t.steps.items) e t.node
     → IsOf i.program (state_at i.program (take place t.steps.items))
     → t.node.last ≡ Some u → t.node.asleep ≡ mask_after mode c u
-    → (at_bound mode t.node && has e u) ≡ true → has past u ≡ false
-    → ((v : ℕ) → v ≢ u → has past v ≡ has e v)
+    → (at_bound mode t.node && has e u) ≡ true → has others u ≡ false
+    → ((v : ℕ) → v ≢ u → has others v ≡ has e v)
+    → ((v : ℕ) → has past v ≡ (has others v
+    && not (is_hidden_after mode (item_of i.program (take place t.steps.items) t.node) v)))
     → g.part ≡ with_beyond f.part (f.part.beyond || not (is_empty (members_from past 0)))
     → g.rest ≡ f.rest
     → HasPut f (map (λ v. take place t.steps.items ++ v ∷ []) (members_from past 0)) g
     → IsShared (take place t.steps.items) g → IsAlong b mode i t g (place + 1)
-along_next Reduced i c t f g e past u place h more node of last asleep alone out others part rest
-    put shared = absurd (at_bound_is Reduced t.node (and_left false (has e u) alone))
-along_next {b} (Bounded bound) i c t f g e past u place h more node of last asleep alone out others
+along_next {b} mode i c t f g e others past u place h more node of last asleep alone out apart seen
     part rest put shared = record {
-      walked = subst (λ (j : ItemView). IsWalkedOn b (Bounded bound) i g
-          (j ∷ left_above (Bounded bound) i.program t))
+      walked = subst (λ (j : ItemView). IsWalkedOn b mode i g (j ∷ left_above mode i.program t))
           (λ k. record {
             program = i.program;
             prefix = sym more k;
-            mask = sym asleep k;
+            mask = (same_mask mode t.node
+                (item_of i.program (take place t.steps.items) t.node) c u
+                (and_left _ (has e u) alone) ∙ sym asleep) k;
           })
-          (lone_walked bound i (take place t.steps.items) t.node f g e past u
-          (left_above (Bounded bound) i.program t) h.walked node of last
-          (at_bound_is (Bounded bound) t.node (and_left _ (has e u) alone))
-          (and_right (at_bound (Bounded bound) t.node) (has e u) alone) out others part rest put);
+          (lone_walked mode i (take place t.steps.items) t.node f g e others past u
+          (left_above mode i.program t) h.walked node of last
+          (at_bound_is mode t.node (and_left _ (has e u) alone))
+          (and_right (at_bound mode t.node) (has e u) alone) out apart seen part rest put);
       shared = shared_entered (take place t.steps.items) _ u g shared more;
     }
 
@@ -241,26 +250,33 @@ extended_place p mode old new u asleep run h path e = record {
 }
 
 -- at a node between, all that is put off is noted already: what a thread is enabled beside
-pub record AreNoted (p : Program) (w : List ℕ) (u : ℕ) (f : Found) : Type 0 where
+pub record AreNoted (mode : Mode) (n : Node) (p : Program) (w : List ℕ) (u : ℕ) (f : Found)
+    : Type 0 where
   pub on : Mask
+  pub apart : Mask
   pub past : Mask
   pub enabled : HasEnabled on p (state_at p w)
-  pub out : has past u ≡ false
-  pub others : (v : ℕ) → v ≢ u → has past v ≡ has on v
+  pub out : has apart u ≡ false
+  pub others : (v : ℕ) → v ≢ u → has apart v ≡ has on v
+  pub seen : (v : ℕ) → has past v
+      ≡ (has apart v && not (is_hidden_after mode (item_of p w n) v))
   pub unlisted : f.lists ≡ false
   pub beyond : (f.part.beyond || not (is_empty (members_from past 0))) ≡ f.part.beyond
 
 -- which is so of all sets where it is noted and none is listed
-pub noted_all : (p : Program) (w : List ℕ) (u : ℕ) (f : Found) → IsOf p (state_at p w)
-    → (not f.lists && f.part.beyond) ≡ true → AreNoted p w u f
-noted_all p w u f of h = record {
+pub noted_all : (mode : Mode) (n : Node) (p : Program) (w : List ℕ) (u : ℕ) (f : Found)
+    → IsOf p (state_at p w) → (not f.lists && f.part.beyond) ≡ true → AreNoted mode n p w u f
+noted_all mode n p w u f of h = record {
   on = mask_of is_on;
-  past = mask_of is_other;
+  apart = mask_of is_other;
+  past = mask_of is_seen;
   enabled = all is_on off;
   out = all is_other outside u ∙ (ap (λ b. is_on u && not b) (let z : nat_eq u u ≡ true =
       grind (arith, nat_tests) in z) ∙ none (is_on u));
   others = λ v ne. all is_other outside v ∙ (ap (λ b. is_on v && not b) (let z : nat_eq v u ≡ false =
       grind (arith, nat_tests, ne) in z) ∙ (same (is_on v) ∙ sym (all is_on off v)));
+  seen = λ v. all is_seen unseen v
+      ∙ ap (λ b. b && not (is_hidden_after mode (item_of p w n) v)) (sym (all is_other outside v));
   unlisted = not-true f.lists (and_left (not f.lists) f.part.beyond h);
   beyond = already f.part.beyond _ (and_right (not f.lists) f.part.beyond h);
 }
@@ -271,11 +287,17 @@ noted_all p w u f of h = record {
     is_other : ℕ → Bool
     is_other v = is_on v && not (nat_eq v u)
 
+    is_seen : ℕ → Bool
+    is_seen v = is_other v && not (is_hidden_after mode (item_of p w n) v)
+
     off : (v : ℕ) → THREADS ≤ v → is_on v ≡ false
     off v far = disabled_past p (state_at p w) v (omega (arith, of.few, far))
 
     outside : (v : ℕ) → THREADS ≤ v → is_other v ≡ false
     outside v far = ap (λ b. b && not (nat_eq v u)) (off v far)
+
+    unseen : (v : ℕ) → THREADS ≤ v → is_seen v ≡ false
+    unseen v far = ap (λ b. b && not (is_hidden_after mode (item_of p w n) v)) (outside v far)
 
     all : (g : ℕ → Bool) → ((v : ℕ) → THREADS ≤ v → g v ≡ false) → (v : ℕ)
         → has (mask_of g) v ≡ g v
@@ -304,7 +326,7 @@ module _ {heedless : Bool} (mode : Mode) (i : ItemView) (old t : Path) (u : ℕ)
   along_rest : {b : Found} (f : Found) (n place : ℕ) → length old.steps.items + 1 ≤ place
       → place + n ≡ length t.steps.items
       → ((k : ℕ) → place ≤ k → k < length t.steps.items
-      → AreNoted i.program (take k t.steps.items) u f)
+      → AreNoted mode t.node i.program (take k t.steps.items) u f)
       → IsAlong b mode i t f place → IsAlong b mode i t f (length t.steps.items)
   along_rest {b} f zero place from to seen along = subst (λ (k : ℕ). IsAlong b mode i t f k)
       (let e : place ≡ length t.steps.items = omega (arith, to) in e) along
@@ -313,12 +335,12 @@ module _ {heedless : Bool} (mode : Mode) (i : ItemView) (old t : Path) (u : ℕ)
       let known = seen place (omega arith) inside in
       along_rest f n (place + 1) (omega (arith, from)) (omega (arith, to))
       (λ k later. seen k (omega (arith, later)))
-      (along_next mode i (here i.program old) t f f known.on known.past u place along
+      (along_next mode i (here i.program old) t f f known.on known.apart known.past u place along
       (more_at i.program mode old t u asleep run place path h from inside)
       (node_at i.program mode old t u asleep run place path h from inside known.on known.enabled)
       (of_at i.program mode old t u asleep run place path h from inside) h.last (h.asleep ∙ mask)
       (alone_at i.program mode old t u asleep run place path h from inside known.on known.enabled)
-      known.out known.others (sym (ap (with_beyond f.part) known.beyond)) refl
+      known.out known.others known.seen (sym (ap (with_beyond f.part) known.beyond)) refl
       (record {
         lists = refl;
         deferred = sym ((λ k. f.deferred ++ listed_if (known.unlisted k)
@@ -350,7 +372,7 @@ module _ {heedless : Bool} (mode : Mode) (i : ItemView) (old t : Path) (u : ℕ)
         → IsSearch b mode i old f (open_below mode i.program old u)
         → (IsAlong b mode i t f (length old.steps.items + 1) → IsAlong b mode i t g place)
         → ((k : ℕ) → place ≤ k → k < length t.steps.items
-        → AreNoted i.program (take k t.steps.items) u g)
+        → AreNoted mode t.node i.program (take k t.steps.items) u g)
         → IsSearch b mode i new g (open_here mode i.program new)
     run_searched f g begun along seen = along_done mode i t new g (length t.steps.items)
         (along_rest g (length t.steps.items - place) place from (omega (arith, to)) seen

@@ -5,7 +5,7 @@ ghost use Rattle.std.specs.Prelude.{◌≡◌, ◌+◌, ◌*◌, ◌-◌, ◌<�
 ghost use Rattle.semantics.specs.{Machine.{start, is_enabled}, Mask.one_if};
 ghost use Rattle.semantics_schedules.specs.Schedules.{runs};
 ghost use Rattle.walk.specs.inner.Paths.{IsPath, used_frames, frame_at, is_preempting, state_at};
-ghost use Rattle.walk.specs.inner.WalkerInvariant.{IsPushed, IsExtended, left_above, still_open, at_bound};
+ghost use Rattle.walk.specs.inner.WalkerInvariant.{IsPushed, IsExtended, left_above, still_open, at_bound, runs_on};
 ghost use Rattle.walk_items.specs.declared.mode.Mode.{Mode};
 
 use guest_code::laws::programs_are_well_formed;
@@ -107,7 +107,23 @@ impl Node {
     {
         match mode {
             Mode::Bounded(bound) => self.used == bound,
+            Mode::BoundedOnce(bound) => self.used == bound,
             Mode::Reduced => false,
+            Mode::ReducedOnce => false,
+        }
+    }
+
+    // Whether further steps of a run may follow as long as the same threads are enabled: at the
+    // bound, unless equal threads are tried once. There each step is a run, so that which threads
+    // are hidden is only asked of the state that the path is in.
+    pub(crate) fn runs_on(&self, mode: Mode) -> bool
+        ensures { result ≡ runs_on mode self.now }
+    {
+        match mode {
+            Mode::Bounded(bound) => self.used == bound,
+            Mode::Reduced => false,
+            Mode::BoundedOnce(_) => false,
+            Mode::ReducedOnce => false,
         }
     }
 }
@@ -237,9 +253,9 @@ impl Path {
 
     /// Extends the path by a run of an enabled thread, and returns the run. It is one step, after
     /// which the threads `asleep` sleep. Where the node after it is at the mode's bound, further
-    /// steps of the thread follow, `2 * INSTRUCTIONS` in all at most, as long as it and the same
-    /// other threads are enabled, or any where the run is `heedless`: a step of another would pass
-    /// the bound. Fails where memory runs out; no step is taken then.
+    /// steps of the thread follow, `2 * INSTRUCTIONS` in all at most, as long as it is enabled if the
+    /// run is `heedless`, or else, where all threads are tried, as long as the same others are, too:
+    /// a step of another would pass the bound. Fails where memory runs out; no step is taken then.
     #[inline(always)]
     pub fn extend(
         &mut self,
@@ -260,8 +276,8 @@ impl Path {
         self.steps.reserve(2 * INSTRUCTIONS)?;
         let enabled = self.machine.enabled();
         self.node.step(enabled, thread, asleep);
-        let further = self.node.is_at_bound(mode);
-        let heedless = further & heedless;
+        let heedless = heedless & self.node.is_at_bound(mode);
+        let further = heedless | self.node.runs_on(mode);
         let reach = Reach { further, heedless };
         let run = self.machine.run(program, thread, reach);
         push_run(&mut self.steps, thread, further, run.steps);

@@ -1,13 +1,16 @@
 //! The depth-first search of a walk: it takes a next step, or backtracks to the node of a frame.
 
-ghost use Rattle.std.specs.Prelude.{◌≡◌, ◌+◌, ◌-◌, ◌++◌, ◌∷◌, ◌<◌, ◌≤◌, ◌&&◌, ◌||◌, not, [], ℕ, true, false, map, IfOk, Some, OnOk, IsTrue, IsFalse, length, take, min, All};
+ghost use Rattle.std.specs.Prelude.{◌≡◌, ◌+◌, ◌-◌, ◌++◌, ◌∷◌, ◌<◌, ◌≤◌, ◌&&◌, ◌||◌, not, [], ℕ, true, false, map};
+ghost use Rattle.std.specs.Prelude.{IfOk, Some, OnOk, IsTrue, IsFalse, length, take, min, All};
 ghost use Rattle.guest_code.specs.declared.limits.TheConstants.{THREADS};
 ghost use Rattle.semantics.specs.{Ends.is_empty, Machine.is_enabled};
-ghost use Rattle.semantics.specs.Mask.{has, members_from, no_threads};
-ghost use Rattle.walk_items.specs.{Children.{child_of, mask_after, cost_of}, Items.IsItem};
+ghost use Rattle.semantics.specs.Mask.{HasEnabled, has, members_from, no_threads};
+ghost use Rattle.walk_items.specs.{Children.{child_of, is_hidden_after, mask_after, cost_of}, Items.IsItem};
 ghost use Rattle.walk_summary.specs.Summaries.{with_beyond, greatest_count};
 ghost use Rattle.walk.specs.{Founds.HasAdded, inner.Paths.{IsPath, used_frames, state_at}};
-ghost use Rattle.walk.specs.inner.WalkerInvariant.{IsPlace, Searches, GoesOn, IsPushedIfOpen, here, open_here, open_below, still_open, turns_left, turns_from, turns_into, turns_next, open_next, is_kept_at, is_past_at, is_past_here, IsFree, at_bound, IsShared, HasPut};
+ghost use Rattle.walk.specs.inner.WalkerInvariant.{IsPlace, Searches, GoesOn, IsPushedIfOpen, here, open_here, open_below, still_open};
+ghost use Rattle.walk.specs.inner.WalkerInvariant.{turns_left, turns_from, turns_into, turns_next, open_next, is_kept_at, is_past_at, is_once};
+ghost use Rattle.walk.specs.inner.WalkerInvariant.{is_past_here, IsFree, at_bound, IsShared, HasPut};
 
 use crate::found::Found;
 use crate::path::{Node, Path};
@@ -160,17 +163,18 @@ fn without_first(set: Mask, first: u8) -> Mask
 }
 
 impl Node {
-    // Sets whose steps from the node are to be tried: those of the threads in `enabled`, in the
-    // mode `Reduced` without those that sleep. No step passes the bound, as the caller makes sure.
-    fn expand(&mut self, enabled: Mask, mode: Mode)
-        requires { (t : ℕ) → (has enabled t && is_past_at mode enabled self.old t) ≡ false }
-        ensures kept { (t : ℕ) → has self.new.todo t
-            ≡ (has enabled t && is_kept_at mode enabled self.old t) }
-        ensures same { self.new ≡ record self.old { todo = self.new.todo } }
+    // The threads of `enabled` whose steps from the node are to be tried unless they are hidden: in a
+    // mode without a bound those that don't sleep. No step passes the bound, as the caller makes
+    // sure.
+    fn awake(&self, enabled: Mask, mode: Mode) -> Mask
+        requires { (t : ℕ) → (has enabled t && is_past_at mode enabled self.now t) ≡ false }
+        ensures { (t : ℕ) → has result t ≡ (has enabled t && is_kept_at mode enabled self.now t) }
     {
         match mode {
-            Mode::Bounded(_) => self.todo = enabled,
-            Mode::Reduced => self.todo = enabled.difference(self.asleep),
+            Mode::Bounded(_) => enabled,
+            Mode::BoundedOnce(_) => enabled,
+            Mode::Reduced => enabled.difference(self.asleep),
+            Mode::ReducedOnce => enabled.difference(self.asleep),
         }
     }
 
@@ -185,6 +189,24 @@ impl Node {
 }
 
 impl Path {
+    // The threads of `asked` that aren't hidden at the node, where these are enabled: all of them
+    // unless the mode tries equal threads once.
+    #[inline(always)]
+    fn seen(&self, program: &Program, mode: Mode, enabled: Mask, asked: Mask) -> Mask
+        requires path { IsPath program.now self.now }
+        requires enabled { HasEnabled enabled program.now
+            (state_at program.now self.now.steps.items) }
+        ensures { (t : ℕ) → has result t
+            ≡ (has asked t && not (is_hidden_after mode (here program.now self.now) t)) }
+    {
+        match mode {
+            Mode::Bounded(_) => asked,
+            Mode::Reduced => asked,
+            Mode::BoundedOnce(_) => self.machine.seen(program, enabled, asked, self.node.last),
+            Mode::ReducedOnce => self.machine.seen(program, enabled, asked, None),
+        }
+    }
+
     // The threads that sleep after a step of an enabled thread from the node; none in a mode with a
     // bound, where sleep sets aren't used.
     #[inline(always)]
@@ -196,7 +218,11 @@ impl Path {
     {
         match mode {
             Mode::Bounded(_) => Mask::empty(),
+            Mode::BoundedOnce(_) => Mask::empty(),
             Mode::Reduced => self
+                .machine
+                .sleep_set_after(program, self.node.asleep, thread),
+            Mode::ReducedOnce => self
                 .machine
                 .sleep_set_after(program, self.node.asleep, thread),
         }
@@ -227,7 +253,8 @@ impl Path {
             found.new.part.tried ≡ found.old.part.tried) }
     {
         let enabled = self.machine.enabled();
-        self.node.expand(enabled, mode);
+        let awake = self.node.awake(enabled, mode);
+        self.node.todo = self.seen(item.program(), mode, enabled, awake);
         match enabled.first_from(0) {
             Some(_) => Ok(()),
             None => {
@@ -251,31 +278,32 @@ impl Path {
     fn defer_others_if_alone(
         &mut self,
         found: &mut Found,
-        _item: &Item,
+        item: &Item,
         mode: Mode,
         thread: u8,
     ) -> Result<bool, AllocError>
-        requires search { Searches mode _item.now self.old found.old
-            (open_here mode _item.now.program self.old) }
+        requires search { Searches mode item.now self.old found.old
+            (open_here mode item.now.program self.old) }
         requires last { self.old.node.last ≡ Some thread }
-        ensures path { IsPath _item.now.program self.new }
+        ensures path { IsPath item.now.program self.new }
         ensures steps { self.new.steps.items ≡ self.old.steps.items }
-        ensures search { let p = _item.now.program in IfOk result (λ on. GoesOn mode _item.now
+        ensures search { let p = item.now.program in IfOk result (λ on. GoesOn mode item.now
             self.old found.old (open_here mode p self.old)
             self.new found.new (open_next mode p self.new thread on)) }
-        ensures free { IfOk result (λ on. on ≡ false → IsFree mode _item.now.program self.new) }
-        ensures falls { IfOk result (λ on. turns_next mode _item.now.program self.new thread on
-            ≤ turns_from mode _item.now.program self.old) }
+        ensures free { IfOk result (λ on. on ≡ false → IsFree mode item.now.program self.new) }
+        ensures falls { IfOk result (λ on. turns_next mode item.now.program self.new thread on
+            ≤ turns_from mode item.now.program self.old) }
         ensures tried { OnOk result (found.new.part.tried ≡ found.old.part.tried) }
     {
         let enabled = self.machine.enabled();
         if !self.node.is_alone(enabled, mode, thread) {
             return Ok(false);
         }
+        let others = enabled.with(thread, false);
+        let past = self.seen(item.program(), mode, enabled, others);
         let place = self.steps.len();
         self.steps.push(thread)?;
-        let others = enabled.with(thread, false);
-        let deferred = found.defer(&mut self.steps, place, others);
+        let deferred = found.defer(&mut self.steps, place, past);
         self.steps.pop();
         deferred?;
         Ok(true)
@@ -311,7 +339,7 @@ impl Path {
         let from = self.steps.len();
         let heedless = found.has_noted_all();
         let run = self.extend(program, mode, thread, asleep, heedless)?;
-        let settled = heedless | !self.node.is_at_bound(mode);
+        let settled = heedless | !self.node.runs_on(mode);
         if settled {
             return Ok(());
         }
@@ -515,6 +543,7 @@ impl Path {
         mode: Mode,
         limit: u64,
     ) -> Result<(), AllocError>
+        requires plain { is_once mode ≡ false }
         requires search { Searches mode item.now self.old found.old
             (still_open mode item.now.program self.old) }
         requires few { found.old.part.tried ≤ limit }
@@ -531,6 +560,70 @@ impl Path {
                 self.search_in(alloc, found, item, Mode::Bounded(bound), limit)
             }
             Mode::Reduced => self.search_in(alloc, found, item, Mode::Reduced, limit),
+            Mode::BoundedOnce(_) => unreachable!(),
+            Mode::ReducedOnce => unreachable!(),
+        }
+    }
+
+    // The search where equal threads are tried once: apart, so that the others are as fast as
+    // without it.
+    #[inline(never)]
+    fn search_once(
+        &mut self,
+        alloc: Global,
+        found: &mut Found,
+        item: &Item,
+        mode: Mode,
+        limit: u64,
+    ) -> Result<(), AllocError>
+        requires once { is_once mode ≡ true }
+        requires search { Searches mode item.now self.old found.old
+            (still_open mode item.now.program self.old) }
+        requires few { found.old.part.tried ≤ limit }
+        ensures path { IsPath item.now.program self.new }
+        ensures search { let p = item.now.program in OnOk result (GoesOn mode item.now
+            self.old found.old (still_open mode p self.old)
+            self.new found.new (still_open mode p self.new)) }
+        ensures few { OnOk result (found.new.part.tried ≤ limit) }
+        ensures all { OnOk result (found.new.part.tried < limit
+            → still_open mode item.now.program self.new ≡ []) }
+    {
+        match mode {
+            Mode::Bounded(_) => unreachable!(),
+            Mode::Reduced => unreachable!(),
+            Mode::BoundedOnce(bound) => {
+                self.search_in(alloc, found, item, Mode::BoundedOnce(bound), limit)
+            }
+            Mode::ReducedOnce => self.search_in(alloc, found, item, Mode::ReducedOnce, limit),
+        }
+    }
+
+    // The one search or the other, by the mode.
+    #[inline(always)]
+    fn search_by_mode(
+        &mut self,
+        alloc: Global,
+        found: &mut Found,
+        item: &Item,
+        mode: Mode,
+        limit: u64,
+    ) -> Result<(), AllocError>
+        requires search { Searches mode item.now self.old found.old
+            (still_open mode item.now.program self.old) }
+        requires few { found.old.part.tried ≤ limit }
+        ensures path { IsPath item.now.program self.new }
+        ensures search { let p = item.now.program in OnOk result (GoesOn mode item.now
+            self.old found.old (still_open mode p self.old)
+            self.new found.new (still_open mode p self.new)) }
+        ensures few { OnOk result (found.new.part.tried ≤ limit) }
+        ensures all { OnOk result (found.new.part.tried < limit
+            → still_open mode item.now.program self.new ≡ []) }
+    {
+        match mode {
+            Mode::Bounded(_) => self.search(alloc, found, item, mode, limit),
+            Mode::Reduced => self.search(alloc, found, item, mode, limit),
+            Mode::BoundedOnce(_) => self.search_once(alloc, found, item, mode, limit),
+            Mode::ReducedOnce => self.search_once(alloc, found, item, mode, limit),
         }
     }
 
@@ -613,7 +706,9 @@ impl Path {
     {
         match mode {
             Mode::Bounded(bound) => self.node.used > bound,
+            Mode::BoundedOnce(bound) => self.node.used > bound,
             Mode::Reduced => false,
+            Mode::ReducedOnce => false,
         }
     }
 
@@ -645,7 +740,7 @@ impl Path {
         found.set_shared(&self.steps);
         self.run_last_thread_if_alone(found, item, mode)?;
         self.expand(alloc, found, item, mode)?;
-        self.search(alloc, found, item, mode, limit)?;
+        self.search_by_mode(alloc, found, item, mode, limit)?;
         self.drain(alloc, item, mode, &mut found.rest)
     }
 }

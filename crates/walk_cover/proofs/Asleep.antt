@@ -19,11 +19,11 @@ use Rattle.semantics_schedules.proofs.UnfoldingUnderPrefix.{state_after-push}
 use Rattle.walk_items.specs.Children.{child_of, children, next_steps, is_kept_step}
 use Rattle.walk_items.specs.Items.{ItemView, IsItem, item_at, root_of, state_of, schedules_of}
 use Rattle.walk_items.specs.Walks.{IsBelow, HasItsOf}
-use Rattle.walk_items.specs.declared.mode.Mode.TheVariants.{Bounded, Reduced}
+use Rattle.walk_items.specs.declared.mode.Mode.{Mode, TheVariants.{Bounded, Reduced}}
 use Rattle.walk_items.proofs.Children.{begins_own, child_below, children_schedules}
 use Rattle.walk_items.proofs.Filters.{filter_same, filter_none}
 use Rattle.walk_items.proofs.{Reduced.child_keeps, Splits.below_further, WalkedItems.bounded_has}
-use Rattle.walk_cover.specs.Under.{IsUnder, HasNoneUnder, IsAsleepAfter}
+use Rattle.walk_cover.specs.{Covers.plain, Under.{IsUnder, HasNoneUnder, IsAsleepAfter}}
 use Rattle.walk_cover.proofs.Covers.{self_cover, has_further}
 
 -- the item of all schedules, and at a bound that of a prefix
@@ -44,9 +44,9 @@ none_under i none mask =
     (λ k. record { program = i.program; prefix = sym none k; mask = sym mask k })
     (root_under i.program)
 
-pub bounded_under : (bound : ℕ) (p : Program) (prefix : List ℕ) (i : ItemView) →
-    i ≡ item_at p prefix → IsItem i → IsUnder (Bounded bound) p prefix i
-bounded_under bound p prefix i is h =
+pub bounded_under : (mode : Mode) (bound : ℕ) (p : Program) (prefix : List ℕ) (i : ItemView) →
+    plain mode ≡ Bounded bound → i ≡ item_at p prefix → IsItem i → IsUnder mode p prefix i
+bounded_under mode bound p prefix i plainly is h =
     let b : IsBelow (root_of p) i = record {
       program = ap (λ (r : ItemView). r.program) is;
       item = h;
@@ -55,7 +55,7 @@ bounded_under bound p prefix i is h =
     record {
       is = ap (λ (r : ItemView). r.prefix) is;
       below = b;
-      own = bounded_has bound (root_of p) i b;
+      own = subst (λ m. HasItsOf m (root_of p) i) (sym plainly) (bounded_has bound (root_of p) i b);
     }
 
 -- the item after the first steps of a schedule

@@ -24,12 +24,13 @@ use Rattle.walk_items.proofs.{Covers.covers-append, Filters.{filter_same, filter
 use Rattle.walk_items.proofs.Permutations.{covers-permutation}
 use Rattle.walk_items.proofs.Turns.{costs-append, cost_two, children_cost, preemptions_limit}
 use Rattle.walk_cover.specs.CoverBy.{IsCoverBy, IsMissing, AreNested, IsUnused, CoverErrorMeans}
-use Rattle.walk_cover.specs.{Covers.IsCover, Prefixes.{is_entered, longer, further, IsComplete}}
+use Rattle.walk_cover.specs.{Covers.{IsCover, plain}, Prefixes.{is_entered, longer, further, IsComplete}}
 use Rattle.walk_cover.specs.declared.covering.CoverError.{CoverError}
 use Rattle.walk_cover.specs.declared.covering.CoverError.TheVariants.{Missing, Nested, Unused, OutOfMemory}
 use Rattle.walk_cover.specs.inner.Reached.{IsFirst, IsReached, IsBare, IsOther}
 use Rattle.walk_cover.proofs.Covers.{self_cover, further_cover, below_is_of, none_below, its_all, has_all}
 use Rattle.walk_cover.proofs.{Lengths.complete_schedule, Listed.{all_in, in_all, begins_push}}
+use Rattle.walk_cover.proofs.Plain.{by_plain, longer_plain}
 
 -- covers, in another order and with an item in parts
 
@@ -37,7 +38,7 @@ pub cover_moved_items : (mode : Mode) (item : ItemView) (xs ys : List ItemView) 
     IsPermutation xs ys → IsCover mode item xs → IsCover mode item ys
 cover_moved_items mode item xs ys m h = record {
   below = All-permutation (IsBelow item) xs ys m h.below;
-  own = All-permutation (HasItsOf mode item) xs ys m h.own;
+  own = All-permutation (HasItsOf (plain mode) item) xs ys m h.own;
   once = λ w c. sym (covers-permutation w xs ys m) ∙ h.once w c;
 }
 
@@ -49,9 +50,9 @@ last_parted mode item i xs ds h part = record {
     | inl a ↦ all_in (IsBelow item) (xs ++ i ∷ []) r h.below (in_left xs (i ∷ []) r a)
     | inr b ↦ below_both r b
   ]);
-  own = in_all (HasItsOf mode item) (xs ++ ds) (λ r m. elim (in_either xs ds r m) [
-    | inl a ↦ all_in (HasItsOf mode item) (xs ++ i ∷ []) r h.own (in_left xs (i ∷ []) r a)
-    | inr b ↦ all_in (HasItsOf mode item) ds r
+  own = in_all (HasItsOf (plain mode) item) (xs ++ ds) (λ r m. elim (in_either xs ds r m) [
+    | inl a ↦ all_in (HasItsOf (plain mode) item) (xs ++ i ∷ []) r h.own (in_left xs (i ∷ []) r a)
+    | inr b ↦ all_in (HasItsOf (plain mode) item) ds r
         (has_all mode item (λ j. ds) i ds own part.below part.own) b
   ]);
   once = λ w c.
@@ -68,8 +69,8 @@ last_parted mode item i xs ds h part = record {
     below : IsBelow item i
     below = all_in (IsBelow item) (xs ++ i ∷ []) i h.below last
 
-    own : HasItsOf mode item i
-    own = all_in (HasItsOf mode item) (xs ++ i ∷ []) i h.own last
+    own : HasItsOf (plain mode) item i
+    own = all_in (HasItsOf (plain mode) item) (xs ++ i ∷ []) i h.own last
 
     below_both : (r : ItemView) → In ds r → IsBelow item r
     below_both r m =
@@ -80,12 +81,12 @@ last_parted mode item i xs ds h part = record {
           prefix = begins_further item.prefix i.prefix r.prefix below.prefix b.prefix;
         }
 
-    one : (w : List ℕ) → Contains (everything mode item) w → (on : Bool) →
+    one : (w : List ℕ) → Contains (everything (plain mode) item) w → (on : Bool) →
         begins_with i.prefix w ≡ on → covers w ds ≡ one_if (begins_with i.prefix w) + 0
     one w c true e =
         part.once w (in_contains _ w
         (subst (λ L. In L w) (sym (its_all mode item i below own))
-        (in_filter (begins_with i.prefix) (everything mode item) w (contains_in _ w c) e)))
+        (in_filter (begins_with i.prefix) (everything (plain mode) item) w (contains_in _ w c) e)))
         ∙ ap (λ b. one_if b + 0) (sym e)
     one w c false e =
         none_below i ds w part.below e ∙ ap (λ b. one_if b + 0) (sym e)
@@ -187,7 +188,7 @@ module _ (mode : Mode) (p : Program) (prefixes : List (List ℕ)) where
       left ≡ rest ++ i ∷ [] → (In prefixes i.prefix → ⊥) → IsComplete i → IsBare mode p prefixes i
   way_bare items left rest i h e off over = record {
     only = sym (its_all mode (root_of p) i below
-        (all_in (HasItsOf mode (root_of p)) (items ++ left) i h.cover.own last))
+        (all_in (HasItsOf (plain mode) (root_of p)) (items ++ left) i h.cover.own last))
         ∙ complete_schedule mode i below.item over;
     bare = in_all (λ x. begins_with x i.prefix ≡ false) prefixes
         (λ x m. go x m (begins_with x i.prefix) refl);
@@ -261,7 +262,7 @@ module _ (mode : Mode) (p : Program) (prefixes : List (List ℕ)) where
       All (λ i. begins_with i.prefix x ≡ false) items → IsUnused mode p prefixes x
   other_unused items x h listed off none = record {
     listed = in_contains prefixes x listed;
-    none = none_begins x (everything mode (root_of p)) (λ w m b.
+    none = none_begins x (everything (plain mode) (root_of p)) (λ w m b.
         let one = begun_by items w (h.cover.once w (in_contains _ w m)) in
         elim (begin_both one.0.prefix x w one.2 b) [
           | inl k ↦
@@ -292,8 +293,8 @@ module _ (mode : Mode) (p : Program) (prefixes : List (List ℕ)) where
       begins_with i.prefix x ≡ true → IsUnused mode p prefixes x
   longer_unused i x h listed b = record {
     listed = in_contains prefixes x listed;
-    none = none_begins x (everything mode (root_of p)) (λ w m k.
-        let under = in_filter (begins_with i.prefix) (everything mode (root_of p)) w m
+    none = none_begins x (everything (plain mode) (root_of p)) (λ w m k.
+        let under = in_filter (begins_with i.prefix) (everything (plain mode) (root_of p)) w m
         (begins_further i.prefix x w b k) in
         elim (subst (λ L. In L w) h.only under) [
           | inl e ↦
@@ -310,8 +311,9 @@ module _ (mode : Mode) (p : Program) (prefixes : List (List ℕ)) where
   bare_missing i n x h is none = record {
     none = none;
     schedule = i.prefix;
-    is = in_contains _ i.prefix (from_filter (begins_with i.prefix) (everything mode (root_of p))
-        i.prefix (subst (λ L. In L i.prefix) (sym h.only) (inl refl))).0;
+    is = in_contains _ i.prefix (from_filter (begins_with i.prefix)
+        (everything (plain mode) (root_of p)) i.prefix
+        (subst (λ L. In L i.prefix) (sym h.only) (inl refl))).0;
     begins = subst (λ v. begins_with v i.prefix ≡ true) (sym is)
         (subst (λ w. begins_with (take n i.prefix) w ≡ true) (take-append-drop n i.prefix)
         (begins_longer (take n i.prefix) _));
@@ -331,15 +333,10 @@ listed_less left rest i e =
 longer_cost : (mode : Mode) (p : Program) (i : ItemView) → IsWellFormed p →
     IsBelow (root_of p) i → is_terminal i.program (state_of i) ≡ false →
     costs (longer mode i) + 2 ≤ costs (i ∷ [])
-longer_cost Reduced p i fine b more =
-    let less = children_cost Reduced i (below_is_of p i fine b) more in omega (arith, less)
-longer_cost (Bounded bound) p i fine b more =
-    let less = children_cost (Bounded STEPS) i (below_is_of p i fine b) more in
-    let same : children (Bounded STEPS) i ≡ longer (Bounded bound) i =
-    ap (children_of (Bounded bound) i) (filter_same (is_kept_step (Bounded STEPS) i) (λ t. true)
-    (next_steps i) within) in
-    let costs_same = ap costs same in
-    omega (arith, less, costs_same)
+longer_cost mode p i fine b more =
+    subst (λ L. costs L + 2 ≤ costs (i ∷ [])) (longer_plain mode i)
+    (by_plain (λ m. costs (longer m i) + 2 ≤ costs (i ∷ [])) bounded
+    (let less = children_cost Reduced i (below_is_of p i fine b) more in omega (arith, less)) mode)
   where
     within : (t : ℕ) → In (next_steps i) t → is_kept_step (Bounded STEPS) i t ≡ true
     within t m =
@@ -348,6 +345,15 @@ longer_cost (Bounded bound) p i fine b more =
         (runs-push i.program (start i.program) i.prefix t b.item
         (from_enabled i.program (state_of i) t m)) in
         grind (arith, nat_tests, few)
+
+    bounded : (bound : ℕ) → costs (longer (Bounded bound) i) + 2 ≤ costs (i ∷ [])
+    bounded bound =
+        let less = children_cost (Bounded STEPS) i (below_is_of p i fine b) more in
+        let same : children (Bounded STEPS) i ≡ longer (Bounded bound) i =
+        ap (children_of (Bounded bound) i) (filter_same (is_kept_step (Bounded STEPS) i) (λ t. true)
+        (next_steps i) within) in
+        let costs_same = ap costs same in
+        omega (arith, less, costs_same)
 
 further_less : (mode : Mode) (p : Program) (left rest new : List ItemView) (i : ItemView) →
     IsWellFormed p → IsBelow (root_of p) i → is_terminal i.program (state_of i) ≡ false →

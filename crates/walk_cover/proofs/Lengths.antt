@@ -24,9 +24,9 @@ use Rattle.walk_items.specs.{Walks.{IsBelow, HasItsOf}, declared.mode.Mode.Mode}
 use Rattle.walk_items.specs.declared.mode.Mode.TheVariants.{Bounded, Reduced}
 use Rattle.walk_items.proofs.{Children.children_schedules, Filters.{filter_all, filter_twice}}
 use Rattle.walk_items.proofs.{ItemsWalked.leaf_schedules, WalkedItems.bounded_has}
-use Rattle.walk_cover.specs.Covers.{IsCover}
+use Rattle.walk_cover.specs.Covers.{IsCover, plain}
 use Rattle.walk_cover.specs.Prefixes.{is_entered, longer, further, prefixes_of, IsComplete}
-use Rattle.walk_cover.proofs.Covers.{below_is_of, further_cover, prefixes_cover}
+use Rattle.walk_cover.proofs.{Covers.{below_is_of, further_cover, prefixes_cover}, Plain.{by_plain, longer_plain}}
 
 -- the bound
 
@@ -150,44 +150,52 @@ prefixes_cut bound p (suc n) fine =
 -- all schedules, in their order
 
 further_schedules : (mode : Mode) (p : Program) (i : ItemView) → IsWellFormed p →
-    IsBelow (root_of p) i → everything mode i ≡ flat_map (everything mode) (further mode i)
-further_schedules mode p i fine b = go mode (is_terminal i.program (state_of i)) refl
+    IsBelow (root_of p) i →
+    everything (plain mode) i ≡ flat_map (everything (plain mode)) (further mode i)
+further_schedules mode p i fine b = go (is_terminal i.program (state_of i)) refl
   where
-    go : (m : Mode) (over : Bool) → is_terminal i.program (state_of i) ≡ over →
-        everything m i ≡ flat_map (everything m) (cond over (i ∷ []) (longer m i))
-    go m true e = sym (append-nil (everything m i))
-    go (Bounded bound) false e =
-        schedules_under-more i.program i.prefix b.item e
+    go : (over : Bool) → is_terminal i.program (state_of i) ≡ over →
+        everything (plain mode) i
+        ≡ flat_map (everything (plain mode)) (cond over (i ∷ []) (longer mode i))
+    go true e = sym (append-nil (everything (plain mode) i))
+    go false e =
+        by_plain (λ m. everything m i ≡ flat_map (everything m) (longer m i))
+        (λ bound. schedules_under-more i.program i.prefix b.item e
         ∙ (ap (flat_map (λ t. schedules_under i.program (i.prefix ++ t ∷ [])))
         (sym (filter_all (next_steps i)))
         ∙ sym (flat_map-map (everything (Bounded bound)) (child_of (Bounded bound) i)
-        (filter (λ t. true) (next_steps i))))
-    go Reduced false e = children_schedules Reduced i b.item (below_is_of p i fine b) e
+        (filter (λ t. true) (next_steps i)))))
+        (children_schedules Reduced i b.item (below_is_of p i fine b) e) mode
+        ∙ ap (flat_map (everything (plain mode))) (longer_plain mode i)
 
 parts_schedules : (mode : Mode) (p : Program) (items : List ItemView) → IsWellFormed p →
     All (IsBelow (root_of p)) items →
-    flat_map (everything mode) items ≡ flat_map (everything mode) (flat_map (further mode) items)
+    flat_map (everything (plain mode)) items
+    ≡ flat_map (everything (plain mode)) (flat_map (further mode) items)
 parts_schedules mode p [] fine b = refl
 parts_schedules mode p (i ∷ is) fine b =
     (λ k. further_schedules mode p i fine (All-head (IsBelow (root_of p)) i is b) k
     ++ parts_schedules mode p is fine (All-tail (IsBelow (root_of p)) i is b) k)
-    ∙ sym (flat_map-append (everything mode) (further mode i) (flat_map (further mode) is))
+    ∙ sym (flat_map-append (everything (plain mode)) (further mode i) (flat_map (further mode) is))
 
 all_in_order : (mode : Mode) (p : Program) (n : ℕ) → IsWellFormed p →
-    everything mode (root_of p) ≡ flat_map (everything mode) (prefixes_of mode p n)
-all_in_order mode p zero fine = sym (append-nil (everything mode (root_of p)))
+    everything (plain mode) (root_of p)
+    ≡ flat_map (everything (plain mode)) (prefixes_of mode p n)
+all_in_order mode p zero fine = sym (append-nil (everything (plain mode) (root_of p)))
 all_in_order mode p (suc n) fine =
     all_in_order mode p n fine
     ∙ parts_schedules mode p (prefixes_of mode p n) fine (prefixes_cover mode p n fine).below
 
 pub complete_schedule : (mode : Mode) (i : ItemView) → IsItem i → IsComplete i →
-    everything mode i ≡ i.prefix ∷ []
-complete_schedule (Bounded bound) i h over = schedules_under-terminal i.program i.prefix h over
-complete_schedule Reduced i h over = leaf_schedules Reduced i h over tt
+    everything (plain mode) i ≡ i.prefix ∷ []
+complete_schedule mode i h over =
+    by_plain (λ m. everything m i ≡ i.prefix ∷ [])
+    (λ bound. schedules_under-terminal i.program i.prefix h over)
+    (leaf_schedules Reduced i h over tt) mode
 
 complete_all : (mode : Mode) (p : Program) (items : List ItemView) →
     All (IsBelow (root_of p)) items → All IsComplete items →
-    flat_map (everything mode) items ≡ map (λ i. i.prefix) items
+    flat_map (everything (plain mode)) items ≡ map (λ i. i.prefix) items
 complete_all mode p [] b h = refl
 complete_all mode p (i ∷ is) b h =
     λ k. complete_schedule mode i (All-head (IsBelow (root_of p)) i is b).item
@@ -197,7 +205,7 @@ complete_all mode p (i ∷ is) b h =
 
 pub all_listed : (mode : Mode) (p : Program) (n : ℕ) → IsWellFormed p →
     All IsComplete (prefixes_of mode p n) →
-    map (λ i. i.prefix) (prefixes_of mode p n) ≡ everything mode (root_of p)
+    map (λ i. i.prefix) (prefixes_of mode p n) ≡ everything (plain mode) (root_of p)
 all_listed mode p n fine h =
     sym (all_in_order mode p n fine
     ∙ complete_all mode p (prefixes_of mode p n) (prefixes_cover mode p n fine).below h)

@@ -1,3 +1,4 @@
+pub mod Plain
 pub mod Gathered
 pub mod Covers
 pub mod Steps

@@ -1,9 +1,10 @@
--- Whether a list of prefixes covers a program: whose cover it is, or what is wrong with it.
+-- Whether a list of prefixes covers a program: whose cover it is, or what is wrong with it. A mode
+-- with equal threads once counts as the one with all.
 use Rattle.std.specs.Prelude.{◌≡◌, ◌≢◌, ◌↔◌, ℕ, true, false, List, [], map, filter, All, Contains}
 use Rattle.guest_code.specs.Program.{Program}
 use Rattle.semantics_schedules.specs.Schedules.{begins_with}
 use Rattle.walk_items.specs.{Items.{ItemView, root_of, everything}, declared.mode.Mode.Mode}
-use Rattle.walk_cover.specs.{Covers.IsCover, declared.covering.CoverError.CoverError}
+use Rattle.walk_cover.specs.{Covers.{IsCover, plain}, declared.covering.CoverError.CoverError}
 use Rattle.walk_cover.specs.declared.covering.CoverError.TheVariants.{Missing, Nested, Unused, OutOfMemory}
 
 -- the items are a cover of the program, and their prefixes are those of the list, in any order
@@ -19,7 +20,7 @@ pub record IsMissing (mode : Mode) (p : Program) (prefixes : List (List ℕ)) (p
     Type 0 where
   pub none : All (λ x. begins_with prefix x ≡ false) prefixes
   pub schedule : List ℕ
-  pub is : Contains (everything mode (root_of p)) schedule
+  pub is : Contains (everything (plain mode) (root_of p)) schedule
   pub begins : begins_with prefix schedule ≡ true
   pub bare : All (λ x. begins_with x schedule ≡ false) prefixes
 
@@ -34,7 +35,7 @@ pub record AreNested (prefixes : List (List ℕ)) (outer inner : List ℕ) : Typ
 pub record IsUnused (mode : Mode) (p : Program) (prefixes : List (List ℕ)) (prefix : List ℕ) :
     Type 0 where
   pub listed : Contains prefixes prefix
-  pub none : filter (begins_with prefix) (everything mode (root_of p)) ≡ []
+  pub none : filter (begins_with prefix) (everything (plain mode) (root_of p)) ≡ []
 
 -- what an error says of the list
 abbrev pub CoverErrorMeans : Mode → Program → List (List ℕ) → CoverError → Type 0

@@ -6,13 +6,15 @@ use Rattle.semantics.specs.{Ends.is_terminal, Mask.has}
 use Rattle.replay.specs.Spelling.{printed}
 use Rattle.walk_items.specs.Children.{next_steps, children_of}
 use Rattle.walk_items.specs.{Items.{ItemView, root_of, state_of}, declared.mode.Mode.Mode}
-use Rattle.walk_items.specs.declared.mode.Mode.TheVariants.{Bounded, Reduced}
+use Rattle.walk_items.specs.declared.mode.Mode.TheVariants.{Bounded, Reduced, BoundedOnce, ReducedOnce}
 
 -- whether a step of this thread is gone into: each is, whatever its preemptions; pruned, that of a
--- thread that doesn't sleep
+-- thread that doesn't sleep. A mode with equal threads once counts as the one with all
 abbrev pub is_entered : Mode → ItemView → ℕ → Bool
 is_entered (Bounded bound) i t = true
 is_entered Reduced i t = not (has i.mask t)
+is_entered (BoundedOnce bound) i t = true
+is_entered ReducedOnce i t = not (has i.mask t)
 
 -- the items of one more step, rising
 abbrev pub longer : Mode → ItemView → List ItemView

@@ -27,18 +27,20 @@ fn state_at(alloc: Global, item: &Item) -> Result<State, AllocError>
 }
 
 // Whether a search in this mode goes on from an item's prefix by a step of a thread, if the thread
-// is enabled: with sleep sets (`Reduced`) only if the thread doesn't sleep there, else always.
+// is enabled: with sleep sets (`Reduced`) only if the thread doesn't sleep there, else always. A
+// mode with equal threads once counts as the one with all.
 fn is_entered(mode: Mode, item: &Item, thread: u8) -> bool
     ensures { result ≡ is_entered mode item.now thread }
 {
     match mode {
-        Mode::Bounded(_) => true,
-        Mode::Reduced => !item.mask().has(thread),
+        Mode::Bounded(_) | Mode::BoundedOnce(_) => true,
+        Mode::Reduced | Mode::ReducedOnce => !item.mask().has(thread),
     }
 }
 
 // The threads that sleep after an item's prefix and a step of an enabled thread; none where
-// the search has no sleep sets (`Bounded`). `state` is the state after the prefix.
+// the search has no sleep sets (`Bounded`), and with equal threads once those of the mode with all.
+// `state` is the state after the prefix.
 fn sleepers(mode: Mode, item: &Item, state: &State, thread: u8) -> Mask
     requires state { state.now ≡ state_of item.now }
     requires of { IsOf item.now.program state.now }
@@ -46,8 +48,8 @@ fn sleepers(mode: Mode, item: &Item, state: &State, thread: u8) -> Mask
     ensures { result ≡ mask_after mode item.now thread }
 {
     match mode {
-        Mode::Bounded(_) => Mask::empty(),
-        Mode::Reduced => {
+        Mode::Bounded(_) | Mode::BoundedOnce(_) => Mask::empty(),
+        Mode::Reduced | Mode::ReducedOnce => {
             let enabled = state.enabled(item.program());
             sleep_set_after(item.program(), state, enabled, item.mask(), thread)
         }

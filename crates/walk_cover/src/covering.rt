@@ -45,7 +45,8 @@ impl From<AllocError> for CoverError {
 /// The items of these prefixes, in any order, where the prefixes cover the program: each complete
 /// schedule of the program begins with exactly one of them, and each of them runs. With sleep sets
 /// (`Reduced`) only the schedules that these leave count, and a prefix after which all threads sleep
-/// may begin none of them. A prefix that is given twice counts once.
+/// may begin none of them. A prefix that is given twice counts once. A mode with equal threads once
+/// counts as the one with all.
 ///
 /// # Errors
 ///

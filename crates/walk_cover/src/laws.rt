@@ -1,4 +1,5 @@
-//! Laws of covers. A law is what its function ensures; the functions do nothing.
+//! Laws of covers. A law is what its function ensures; the functions do nothing. A mode with equal
+//! threads once counts as the one with all, its `plain` mode.
 
 ghost use Rattle.std.specs.Prelude.{◌≡◌, ◌<◌, ◌≤◌, ℕ, true, false, List, map, All};
 ghost use Rattle.std.specs.List.{flat_map};
@@ -10,7 +11,7 @@ ghost use Rattle.semantics_schedules.specs.Sleep.{is_kept, none_asleep};
 ghost use Rattle.walk_items.specs.Items.{ItemView, IsItem, root_of, item_sum, item_sums, whole, covers, everything};
 ghost use Rattle.walk_items.specs.declared.mode.Mode.{Mode, TheVariants.{Bounded, Reduced}};
 ghost use Rattle.walk_summary.specs.Summaries.{nothing, with_beyond};
-ghost use Rattle.walk_cover.specs.{Covers.IsCover, Prefixes.{prefixes_of, IsComplete}};
+ghost use Rattle.walk_cover.specs.{Covers.{IsCover, plain}, Prefixes.{prefixes_of, IsComplete}};
 
 // Covers.
 
@@ -29,9 +30,9 @@ pub fn each_schedule_begins_with_one_prefix()
 /// those of a cover of an item to the summary of the item's schedules.
 pub fn sums_over_a_cover_join()
     ensures program { (mode : Mode) (p : Program) (items : List ItemView) →
-        IsCover mode (root_of p) items → whole p mode ≡ item_sums mode items }
+        IsCover mode (root_of p) items → whole p (plain mode) ≡ item_sums (plain mode) items }
     ensures item { (mode : Mode) (item : ItemView) (items : List ItemView) →
-        IsCover mode item items → item_sum mode item ≡ item_sums mode items }
+        IsCover mode item items → item_sum (plain mode) item ≡ item_sums (plain mode) items }
 {}
 
 /// The summary of the schedules of an item whose prefix has more preemptions than the bound says
@@ -73,7 +74,7 @@ pub fn prefixes_are_schedules_cut_short()
         map (λ i. i.prefix) (prefixes_of (Bounded bound) p n) ≡ schedules_cut_at n p (start p) }
     ensures all { (mode : Mode) (p : Program) (n : ℕ) → IsWellFormed p →
         All IsComplete (prefixes_of mode p n) →
-        map (λ i. i.prefix) (prefixes_of mode p n) ≡ everything mode (root_of p) }
+        map (λ i. i.prefix) (prefixes_of mode p n) ≡ everything (plain mode) (root_of p) }
 {}
 
 /// The prefixes of a length are the same at each bound, and a cover at one bound is one at each.

@@ -11,7 +11,7 @@
 //! - [`laws`] says what a cover is good for, and that the prefixes of a length are one.
 //!
 //! In all of these the mode `Reduced` stands for a search with sleep sets: a cover is then one of
-//! the schedules that they leave.
+//! the schedules that they leave. A mode with equal threads once counts as the one with all.
 //!
 //! `specs/` has the definitions. Nothing is searched here: that does the crate `walk`.
 #![tactic(auto)]

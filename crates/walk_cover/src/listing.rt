@@ -21,7 +21,7 @@ use walk_items::mode::Mode;
 /// there as it is. Where no length has this many, all prefixes are complete schedules, with at most
 /// `STEPS` steps. Prefixes with more preemptions than the mode's bound are there, too. With sleep
 /// sets (`Reduced`) only those are there that the search enters, each with the threads that sleep
-/// after it.
+/// after it. A mode with equal threads once counts as the one with all.
 ///
 /// The memory used is that of the list, of the list one step shorter, and of one state. Fails where
 /// memory runs out.

@@ -21,7 +21,8 @@ use walk_items::mode::Mode;
 
 /// The item of a program's schedules that begin with a prefix; with sleep sets (`Reduced`) it has
 /// the threads that sleep after the prefix. `None` where, with sleep sets, the prefix takes a step
-/// of a thread that sleeps: none of the schedules that they leave begins with it.
+/// of a thread that sleeps: none of the schedules that they leave begins with it. A mode with equal
+/// threads once counts as the one with all.
 ///
 /// # Errors
 ///
@@ -42,6 +43,8 @@ pub fn item_under(
     match mode {
         Mode::Bounded(_) => Ok(Some(item)),
         Mode::Reduced => Ok(with_sleepers(alloc, item)?),
+        Mode::BoundedOnce(_) => Ok(Some(item)),
+        Mode::ReducedOnce => Ok(with_sleepers(alloc, item)?),
     }
 }
 

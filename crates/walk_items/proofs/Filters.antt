@@ -1,7 +1,8 @@
 -- Members that pass a test.
-use Rattle.std.proofs.Common.{◌≡◌, Bool, true, false, cond, ◌&&◌, List, [], ◌∷◌, refl, ap, ◌∙◌}
-use Rattle.std.proofs.Common.{sym, inl, inr}
-use Rattle.std.specs.List.{filter}
+use Rattle.std.proofs.Common.{◌≡◌, Bool, true, false, cond, ◌&&◌, ◌||◌, List, [], ◌∷◌, map}
+use Rattle.std.proofs.Common.{refl, ap, ◌∙◌, sym, inl, inr}
+use Rattle.std.specs.List.{filter, flat_map, list_any}
+use Rattle.std.proofs.lemmas.List.Folds.{list_any-append}
 use Rattle.semantics.specs.Waiters.{In}
 
 pub filter_same : {A : Type 0} (f g : A → Bool) (L : List A) → ((x : A) → In L x → f x ≡ g x) →
@@ -47,3 +48,14 @@ pub filter_whole : {A : Type 0} (test : A → Bool) (L : List A) →
     ((x : A) → In L x → test x ≡ true) → L ≡ filter test L
 filter_whole test L h =
     sym (filter_same test (λ x. true) L h ∙ filter_all L)
+
+pub list_any-map : {A X : Type 0} (test : A → Bool) (f : X → A) (xs : List X) →
+    list_any test (map f xs) ≡ list_any (λ x. test (f x)) xs
+list_any-map test f [] = refl
+list_any-map test f (x ∷ xs) = ap (λ b. test (f x) || b) (list_any-map test f xs)
+
+pub list_any-flat_map : {A X : Type 0} (test : A → Bool) (f : X → List A) (xs : List X) →
+    list_any test (flat_map f xs) ≡ list_any (λ x. list_any test (f x)) xs
+list_any-flat_map test f [] = refl
+list_any-flat_map test f (x ∷ xs) = list_any-append test (f x) (flat_map f xs)
+    ∙ ap (λ b. list_any test (f x) || b) (list_any-flat_map test f xs)

@@ -6,8 +6,10 @@ pub mod WalkedItems
 pub mod Listed
 pub mod Splits
 pub mod Reduced
+pub mod Unhidden
 pub mod Children
 pub mod ItemsWalked
 pub mod Turns
 pub mod LastItems
 pub mod Once
+pub mod HiddenSteps

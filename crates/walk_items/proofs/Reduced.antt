@@ -95,11 +95,11 @@ kept_child i t of e =
 
 -- lists
 
-drop_prefix : (x w : List ℕ) → drop (length x) (x ++ w) ≡ w
+pub drop_prefix : (x w : List ℕ) → drop (length x) (x ++ w) ≡ w
 drop_prefix [] w = refl
 drop_prefix (t ∷ x) w = drop_prefix x w
 
-map_filter : (x : List ℕ) (f : List ℕ → Bool) (L : List (List ℕ)) →
+pub map_filter : (x : List ℕ) (f : List ℕ → Bool) (L : List (List ℕ)) →
     map (λ w. x ++ w) (filter f L)
     ≡ filter (λ w. f (drop (length x) w)) (map (λ w. x ++ w) L)
 map_filter x f [] = refl
@@ -120,7 +120,7 @@ map_filter x f (w ∷ L) =
     go false true e r = cc
     go false false e r = r
 
-filter_swap : {A : Type 0} (f g : A → Bool) (L : List A) →
+pub filter_swap : {A : Type 0} (f g : A → Bool) (L : List A) →
     filter f (filter g L) ≡ filter g (filter f L)
 filter_swap f g [] = refl
 filter_swap {A} f g (x ∷ L) = go (f x) (g x) refl refl (filter_swap f g L)

@@ -5,7 +5,8 @@ use Rattle.std.proofs.Common.{nat_lt, List, [], ◌∷◌, ◌++◌, get_or, ref
 use Rattle.std.proofs.Common.{IsPermutation}
 use Rattle.std.specs.List.{filter, flat_map, list_any, All, Contains}
 use Rattle.std.proofs.Math.Bool.{or-false, or_assoc}
-use Rattle.std.proofs.lemmas.{Bool.Decides.nat_tests, Grind.flat_map-append, List.append-nil}
+use Rattle.std.proofs.lemmas.{Bool.{or_parts, Decides.nat_tests}, Grind.flat_map-append}
+use Rattle.std.proofs.lemmas.List.{append-nil}
 use Rattle.std.proofs.lemmas.List.Elements.{All-nil, All-cons, All-append, All-head, All-tail}
 use Rattle.std.proofs.lemmas.List.Elements.{All-contains, All-weaker, Contains-append_cases}
 use Rattle.std.proofs.lemmas.List.Elements.{filter-append}
@@ -15,22 +16,25 @@ use Rattle.std.proofs.lemmas.List.Sorted.{IsPermutation-trans, IsPermutation-app
 use Rattle.std.proofs.lemmas.List.Sorted.{IsPermutation-append_left, IsPermutation-append_right}
 use Rattle.std.proofs.lemmas.List.Sorted.{IsPermutation-middle, list_any-IsPermutation}
 use Rattle.guest_code.specs.Program.{Program}
-use Rattle.semantics_schedules.specs.Schedules.{begins_with, preemptions, schedules_under}
-use Rattle.semantics_schedules.specs.Schedules.{schedules_within, exceeds_bound}
-use Rattle.semantics_schedules.proofs.SchedulesUnderPrefix.{begins_further, begins_itself, in_within}
-use Rattle.semantics.{specs.Waiters.In, proofs.ListMembers.{contains_in, in_contains, from_filter}}
+use Rattle.semantics_schedules.specs.Schedules.{begins_with, preemptions, schedules_within}
+use Rattle.semantics_schedules.proofs.SchedulesUnderPrefix.{begins_further, begins_itself}
+use Rattle.semantics.specs.Waiters.{In}
+use Rattle.semantics.proofs.ListMembers.{contains_in, in_contains, in_filter, from_filter}
 use Rattle.walk_items.specs.FullSums.{full_sum, full_sums}
 use Rattle.walk_items.specs.Items.{ItemView, IsItem, root_of, schedules_of, everything, goes_beyond}
 use Rattle.walk_items.specs.Items.{item_sum, item_sums, is_under}
-use Rattle.walk_items.specs.Walks.{HasItsOf, HasAllPast, IsBelow, IsDeferred, IsCut, IsSplit, IsWithin, IsWalked, clear_of}
+use Rattle.walk_items.specs.Once.{up_to, pruned}
+use Rattle.walk_items.specs.Walks.{HasItsOf, HasAllPast, IsBelow, IsDeferred, IsCutAt, IsPruned, IsCut, IsSplit, IsWithin, IsWalked, clear_of}
 use Rattle.walk_items.specs.declared.mode.Mode.{Mode, TheVariants.{Bounded, Reduced}}
-use Rattle.walk_items.proofs.{Children.{begins_own, under_all}, Covers.covers-append}
+use Rattle.walk_items.specs.declared.mode.Mode.TheVariants.{BoundedOnce, ReducedOnce}
+use Rattle.walk_items.proofs.Children.{begins_own, under_all, own_is, beyond_is, bounded_none}
+use Rattle.walk_items.proofs.{Covers.covers-append}
 use Rattle.walk_items.proofs.Filters.{filter_longer, filter_whole}
-use Rattle.walk_items.proofs.ListParts.{all_left, all_right}
+use Rattle.walk_items.proofs.ListParts.{all_left}
 use Rattle.walk_items.proofs.Permutations.{flat_map-permutation, filter-permutation}
 use Rattle.walk_items.proofs.Permutations.{sum_of-permutation, covers-permutation, parts_apart}
 use Rattle.walk_items.proofs.Permutations.{placed-permutation, turned-permutation}
-use Rattle.walk_items.proofs.WalkedItems.{join-beyond, joined_sum, past_none, rest_has, clear_part}
+use Rattle.walk_items.proofs.WalkedItems.{join-beyond, joined_sum, rest_has, clear_part}
 use Rattle.walk_summary.specs.Summaries.{SummaryView, IsSummary, nothing, sum_of, join, with_beyond}
 use Rattle.walk_summary.proofs.SumsJoin.{sum_of-append, sum_of_none, sum_of-beyond, sum_kept}
 use Rattle.walk_summary.proofs.SumsJoin.{join_nothing, join_beyond}
@@ -40,19 +44,30 @@ use Rattle.walk_summary.proofs.SumsJoin.{join_nothing, join_beyond}
 pub root_within : (mode : Mode) (p : Program) → IsWithin mode (root_of p)
 root_within (Bounded bound) p = omega arith
 root_within Reduced p = tt
+root_within (BoundedOnce bound) p = omega arith
+root_within ReducedOnce p = tt
 
-pub open_cut : (mode : Mode) (item : ItemView) → IsWithin mode item → IsCut mode item (item ∷ []) []
-open_cut (Bounded bound) item fits = record {
+open_at : (bound : ℕ) (item : ItemView) → preemptions item.program item.prefix ≤ bound →
+    IsCutAt bound (item ∷ []) []
+open_at bound item fits = record {
   within = All-cons (λ r. preemptions r.program r.prefix ≤ bound) item [] fits
       (All-nil (λ r. preemptions r.program r.prefix ≤ bound));
   past = All-nil (IsDeferred bound);
 }
-open_cut Reduced item fits = record {
+
+open_pruned : (mode : Mode) (item : ItemView) → IsPruned mode item (item ∷ []) []
+open_pruned mode item = record {
   none = refl;
-  schedules = All-cons (HasItsOf Reduced item) item []
-      (filter_whole (begins_with item.prefix) (schedules_of Reduced item)
-      (begins_own Reduced item)) (All-nil (HasItsOf Reduced item));
+  schedules = All-cons (HasItsOf mode item) item []
+      (filter_whole (begins_with item.prefix) (schedules_of mode item) (begins_own mode item))
+      (All-nil (HasItsOf mode item));
 }
+
+pub open_cut : (mode : Mode) (item : ItemView) → IsWithin mode item → IsCut mode item (item ∷ []) []
+open_cut (Bounded bound) item fits = open_at bound item fits
+open_cut Reduced item fits = open_pruned Reduced item
+open_cut (BoundedOnce bound) item fits = open_at bound item fits
+open_cut ReducedOnce item fits = open_pruned ReducedOnce item
 
 unfoldable pub split_open : (mode : Mode) (item : ItemView) → IsItem item → IsWithin mode item →
     IsSplit mode item nothing (item ∷ []) []
@@ -72,16 +87,29 @@ split_open mode item runs fits = record {
 
 -- the order of the rest is free
 
-cut_permuted : (mode : Mode) (item : ItemView) (xs ys deferred : List ItemView) →
-    IsPermutation xs ys → IsCut mode item xs deferred → IsCut mode item ys deferred
-cut_permuted (Bounded bound) item xs ys deferred moved h = record {
+permuted_at : (bound : ℕ) (xs ys deferred : List ItemView) → IsPermutation xs ys →
+    IsCutAt bound xs deferred → IsCutAt bound ys deferred
+permuted_at bound xs ys deferred moved h = record {
   within = All-permutation (λ r. preemptions r.program r.prefix ≤ bound) xs ys moved h.within;
   past = h.past;
 }
-cut_permuted Reduced item xs ys deferred moved h = record {
+
+permuted_pruned : (mode : Mode) (item : ItemView) (xs ys deferred : List ItemView) →
+    IsPermutation xs ys → IsPruned mode item xs deferred → IsPruned mode item ys deferred
+permuted_pruned mode item xs ys deferred moved h = record {
   none = h.none;
-  schedules = All-permutation (HasItsOf Reduced item) xs ys moved h.schedules;
+  schedules = All-permutation (HasItsOf mode item) xs ys moved h.schedules;
 }
+
+cut_permuted : (mode : Mode) (item : ItemView) (xs ys deferred : List ItemView) →
+    IsPermutation xs ys → IsCut mode item xs deferred → IsCut mode item ys deferred
+cut_permuted (Bounded bound) item xs ys deferred moved h = permuted_at bound xs ys deferred moved h
+cut_permuted Reduced item xs ys deferred moved h =
+    permuted_pruned Reduced item xs ys deferred moved h
+cut_permuted (BoundedOnce bound) item xs ys deferred moved h =
+    permuted_at bound xs ys deferred moved h
+cut_permuted ReducedOnce item xs ys deferred moved h =
+    permuted_pruned ReducedOnce item xs ys deferred moved h
 
 pub split_permuted : (mode : Mode) (item : ItemView) (part : SummaryView)
     (xs ys deferred : List ItemView) → IsPermutation xs ys →
@@ -119,26 +147,45 @@ pub first_within : (mode : Mode) (item i : ItemView) (b deferred : List ItemView
 first_within (Bounded bound) item i b deferred h =
     All-head (λ (r : ItemView). preemptions r.program r.prefix ≤ bound) i b h.within
 first_within Reduced item i b deferred h = tt
+first_within (BoundedOnce bound) item i b deferred h =
+    All-head (λ (r : ItemView). preemptions r.program r.prefix ≤ bound) i b h.within
+first_within ReducedOnce item i b deferred h = tt
 
-cut_further : (mode : Mode) (item i : ItemView) (b deferred rest more : List ItemView) →
-    All (IsBelow i) rest → IsCut mode item (i ∷ b) deferred → IsCut mode i rest more →
-    IsCut mode item (rest ++ b) (deferred ++ more)
-cut_further (Bounded bound) item i b deferred rest more below old walk = record {
+further_at : (bound : ℕ) (i : ItemView) (b deferred rest more : List ItemView) →
+    IsCutAt bound (i ∷ b) deferred → IsCutAt bound rest more →
+    IsCutAt bound (rest ++ b) (deferred ++ more)
+further_at bound i b deferred rest more old walk = record {
   within = All-append (λ r. preemptions r.program r.prefix ≤ bound) rest b walk.within
       (All-tail (λ r. preemptions r.program r.prefix ≤ bound) i b old.within);
   past = All-append (IsDeferred bound) deferred more old.past walk.past;
 }
-cut_further Reduced item i b deferred rest more below old walk = record {
+
+further_pruned : (mode : Mode) (item i : ItemView) (b deferred rest more : List ItemView) →
+    All (IsBelow i) rest → IsPruned mode item (i ∷ b) deferred → IsPruned mode i rest more →
+    IsPruned mode item (rest ++ b) (deferred ++ more)
+further_pruned mode item i b deferred rest more below old walk = record {
   none = λ k. old.none k ++ walk.none k;
-  schedules = All-append (HasItsOf Reduced item) rest b
+  schedules = All-append (HasItsOf mode item) rest b
       (λ k d l. walk.schedules k d l
       ∙ (ap (filter (begins_with (get_or rest k d).prefix))
-      (All-head (HasItsOf Reduced item) i b old.schedules)
+      (All-head (HasItsOf mode item) i b old.schedules)
       ∙ filter_longer (begins_with i.prefix) (begins_with (get_or rest k d).prefix)
-      (schedules_of Reduced item)
+      (schedules_of mode item)
       (λ v. begins_further i.prefix (get_or rest k d).prefix v (below k d l).prefix)))
-      (All-tail (HasItsOf Reduced item) i b old.schedules);
+      (All-tail (HasItsOf mode item) i b old.schedules);
 }
+
+cut_further : (mode : Mode) (item i : ItemView) (b deferred rest more : List ItemView) →
+    All (IsBelow i) rest → IsCut mode item (i ∷ b) deferred → IsCut mode i rest more →
+    IsCut mode item (rest ++ b) (deferred ++ more)
+cut_further (Bounded bound) item i b deferred rest more below old walk =
+    further_at bound i b deferred rest more old walk
+cut_further Reduced item i b deferred rest more below old walk =
+    further_pruned Reduced item i b deferred rest more below old walk
+cut_further (BoundedOnce bound) item i b deferred rest more below old walk =
+    further_at bound i b deferred rest more old walk
+cut_further ReducedOnce item i b deferred rest more below old walk =
+    further_pruned ReducedOnce item i b deferred rest more below old walk
 
 module _ (mode : Mode) (item i : ItemView) (f part : SummaryView)
     (b deferred rest more : List ItemView) (old : IsSplit mode item f (i ∷ b) deferred)
@@ -238,67 +285,131 @@ walked_further mode item c a b rest deferred r e old walk = record {
 
 -- the next bound
 
-module _ (bound : ℕ) (item : ItemView) where
+-- what a mode at a bound says, with equal threads once or without
+
+within_at : (once : Bool) (bound : ℕ) (i : ItemView) → preemptions i.program i.prefix ≤ bound →
+    IsWithin (up_to once bound) i
+within_at false bound i fits = fits
+within_at true bound i fits = fits
+
+from_cut : (once : Bool) (bound : ℕ) (item : ItemView) (rest deferred : List ItemView) →
+    IsCut (up_to once bound) item rest deferred → IsCutAt bound rest deferred
+from_cut false bound item rest deferred h = h
+from_cut true bound item rest deferred h = h
+
+to_cut : (once : Bool) (bound : ℕ) (item : ItemView) (rest deferred : List ItemView) →
+    IsCutAt bound rest deferred → IsCut (up_to once bound) item rest deferred
+to_cut false bound item rest deferred h = h
+to_cut true bound item rest deferred h = h
+
+all_is : (once : Bool) (bound : ℕ) →
+    everything (up_to once (bound + 1)) ≡ everything (up_to once bound)
+all_is false bound = refl
+all_is true bound = refl
+
+module _ (once : Bool) (bound : ℕ) (item : ItemView) where
+  abbrev low : List ℕ → Bool
+  low v = nat_le (preemptions item.program v) bound
+
+  own_low : (v : List ℕ) → Contains (schedules_of (up_to once bound) item) v →
+      Contains (everything (up_to once bound) item) v × (preemptions item.program v ≤ bound)
+  own_low v c =
+      let all = everything (up_to once bound) item in
+      let m = from_filter low all v (contains_in _ v
+      (subst (λ L. Contains L v) (own_is once bound item) c)) in
+      (in_contains all v m.0, is_low (preemptions item.program v) m.1)
+    where
+      is_low : (n : ℕ) → nat_le n bound ≡ true → n ≤ bound
+      is_low n e = grind (arith, nat_tests, e)
+
+  low_own : (v : List ℕ) → Contains (everything (up_to once bound) item) v →
+      preemptions item.program v ≤ bound → Contains (schedules_of (up_to once bound) item) v
+  low_own v c le =
+      let all = everything (up_to once bound) item in
+      subst (λ L. Contains L v) (sym (own_is once bound item))
+      (in_contains _ v (in_filter low all v (contains_in all v c) (is_low _ le)))
+    where
+      is_low : (n : ℕ) → n ≤ bound → nat_le n bound ≡ true
+      is_low n l = grind (arith, nat_tests, l)
+
+module _ (once : Bool) (bound : ℕ) (item : ItemView) where
+  abbrev now : Mode
+  now = up_to once bound
+
+  abbrev next : Mode
+  next = up_to once (bound + 1)
+
   few : (part : SummaryView) (rest deferred : List ItemView)
-      (h : IsSplit (Bounded bound) item part rest deferred) →
+      (h : IsSplit now item part rest deferred) →
       All (λ v. preemptions item.program v ≤ bound) h.tried
   few part rest deferred h =
-      All-weaker (Contains (schedules_of (Bounded bound) item))
-      (λ v. preemptions item.program v ≤ bound)
-      (λ v c. ((in_within item.program item.prefix bound v).1 c).1) h.tried h.own
+      All-weaker (Contains (schedules_of now item)) (λ v. preemptions item.program v ≤ bound)
+      (λ v c. (own_low once bound item v c).1) h.tried h.own
 
   abbrev exceeds : List ℕ → Bool
   exceeds v = nat_lt (bound + 1) (preemptions item.program v)
 
   exceed_below : (ds : List ItemView) → All (IsBelow item) ds →
-      list_any exceeds (flat_map (everything (Bounded bound)) ds)
-      ≡ list_any (goes_beyond (Bounded (bound + 1))) ds
-  unfolding exceeds_bound
+      list_any exceeds (flat_map (everything next) ds) ≡ list_any (goes_beyond next) ds
   exceed_below [] h = refl
   exceed_below (d ∷ ds) h =
-      list_any-append exceeds (schedules_under d.program d.prefix) _
-      ∙ (λ k. list_any (λ v. nat_lt (bound + 1)
-      (preemptions (sym (All-head (IsBelow item) d ds h).program k) v))
-      (schedules_under d.program d.prefix)
+      list_any-append exceeds (everything next d) _
+      ∙ (λ k. (ap (λ (p : Program). list_any (λ v. nat_lt (bound + 1) (preemptions p v))
+      (everything next d)) (sym (All-head (IsBelow item) d ds h).program)
+      ∙ sym (beyond_is once (bound + 1) d)) k
       || exceed_below ds (All-tail (IsBelow item) d ds h) k)
 
-  split_none : (part : SummaryView) (deferred : List ItemView) → IsWithin (Bounded bound) item →
-      IsSplit (Bounded bound) item part [] deferred →
-      IsSplit (Bounded (bound + 1)) item (with_beyond part false) deferred []
-  unfolding exceeds_bound
+  split_none : (part : SummaryView) (deferred : List ItemView) →
+      preemptions item.program item.prefix ≤ bound → IsSplit now item part [] deferred →
+      IsSplit next item (with_beyond part false) deferred []
   split_none part deferred fits h = record {
     tried = h.tried;
-    own = All-weaker (Contains (schedules_of (Bounded bound) item))
-        (Contains (schedules_of (Bounded (bound + 1)) item))
-        (λ v c. let m = (in_within item.program item.prefix bound v).1 c in
+    own = All-weaker (Contains (schedules_of now item)) (Contains (schedules_of next item))
+        (λ v c. let m = own_low once bound item v c in
         let le = m.1 in
-        (in_within item.program item.prefix (bound + 1) v).0 (m.0, omega (arith, le)))
-        h.tried h.own;
+        low_own once (bound + 1) item v
+        (subst (λ (f : ItemView → List (List ℕ)). Contains (f item) v)
+        (sym (all_is once bound)) m.0) (omega (arith, le))) h.tried h.own;
     sum = ap (λ (t : SummaryView). with_beyond t false) h.sum;
-    all = λ within. rw (append-nil deferred) (h.all fits);
-    beyond = list_any-IsPermutation exceeds _ _ (h.all fits)
-        ∙ (list_any-append exceeds h.tried (flat_map (everything (Bounded bound)) deferred)
-        ∙ (λ k. list_any_none exceeds h.tried (λ j d l. low _ (few part [] deferred h j d l)) k
-        || exceed_below deferred h.below k));
+    all = λ within. rw (append-nil deferred) all;
+    beyond = beyond_is once (bound + 1) item
+        ∙ (list_any-IsPermutation exceeds _ _ all
+        ∙ (list_any-append exceeds h.tried (flat_map (everything next) deferred)
+        ∙ (λ k. list_any_none exceeds h.tried (λ j d l. over _ (few part [] deferred h j d l)) k
+        || exceed_below deferred h.below k)));
     below = rw (append-nil deferred) h.below;
     apart = λ v. rw (append-nil deferred) (h.apart v);
-    cut = record {
-      within = λ k d l. let e = (h.cut.past k d l).past in omega (arith, e);
+    cut = to_cut once (bound + 1) item deferred [] (record {
+      within = λ k d l. let e = (cut.past k d l).past in omega (arith, e);
       past = All-nil (IsDeferred (bound + 1));
-    };
+    });
   }
     where
-      low : (n : ℕ) → n ≤ bound → nat_lt (bound + 1) n ≡ false
-      low n le = grind (arith, nat_tests, le)
+      cut : IsCutAt bound [] deferred
+      cut = from_cut once bound item [] deferred h.cut
+
+      all : IsPermutation (everything next item) (h.tried ++ flat_map (everything next) deferred)
+      all = subst (λ (f : ItemView → List (List ℕ)). IsPermutation (f item)
+          (h.tried ++ flat_map f deferred)) (sym (all_is once bound))
+          (h.all (within_at once bound item fits))
+
+      over : (n : ℕ) → n ≤ bound → nat_lt (bound + 1) n ≡ false
+      over n le = grind (arith, nat_tests, le)
+
+pub cut_at : (mode : Mode) (once : Bool) (bound : ℕ) (item : ItemView)
+    (rest deferred : List ItemView) → mode ≡ up_to once bound →
+    IsCut mode item rest deferred → IsCutAt bound rest deferred
+cut_at mode once bound item rest deferred e h =
+    from_cut once bound item rest deferred (subst (λ (m : Mode). IsCut m item rest deferred) e h)
 
 -- where nothing is left, what is deferred is the rest at the next bound
-pub split_next : (bound : ℕ) (item : ItemView) (part : SummaryView)
+pub split_next : (once : Bool) (bound : ℕ) (item : ItemView) (part : SummaryView)
     (rest deferred : List ItemView) → preemptions item.program item.prefix ≤ bound → rest ≡ [] →
-    IsSplit (Bounded bound) item part rest deferred → IsSplit (Bounded (bound + 1)) item
-    (with_beyond part false) deferred []
-split_next bound item part rest deferred fits none h =
-    split_none bound item part deferred fits
-    (subst (λ is. IsSplit (Bounded bound) item part is deferred) none h)
+    IsSplit (up_to once bound) item part rest deferred →
+    IsSplit (up_to once (bound + 1)) item (with_beyond part false) deferred []
+split_next once bound item part rest deferred fits none h =
+    split_none once bound item part deferred fits
+    (subst (λ is. IsSplit (up_to once bound) item part is deferred) none h)
 
 -- what follows
 
@@ -307,52 +418,82 @@ pub split_kept : (mode : Mode) (item : ItemView) (part : SummaryView)
 split_kept mode item part rest deferred h =
     subst IsSummary (sym h.sum) (sum_kept item.program h.tried part.beyond)
 
+-- where sleep sets prune nothing is deferred, and nothing is beyond a bound
+pub pruned_none : (mode : Mode) (once : Bool) (item : ItemView) (rest deferred : List ItemView) →
+    mode ≡ pruned once → IsCut mode item rest deferred → deferred ≡ []
+pruned_none mode once item rest deferred e h =
+    go once (subst (λ (m : Mode). IsCut m item rest deferred) e h)
+  where
+    go : (b : Bool) → IsCut (pruned b) item rest deferred → deferred ≡ []
+    go false k = k.none
+    go true k = k.none
+
+pub pruned_within : (mode : Mode) (once : Bool) (item : ItemView) (part : SummaryView)
+    (rest deferred : List ItemView) → mode ≡ pruned once →
+    IsSplit mode item part rest deferred → part.beyond ≡ false
+pruned_within mode once item part rest deferred e h =
+    (or_parts part.beyond (list_any (goes_beyond mode) rest)
+    (sym h.beyond ∙ (ap (λ (m : Mode). goes_beyond m item) e ∙ never once))).0
+  where
+    never : (b : Bool) → goes_beyond (pruned b) item ≡ false
+    never false = refl
+    never true = refl
+
 -- those within the bound
-module _ (bound : ℕ) (item : ItemView) where
-  abbrev low : List ℕ → Bool
-  low v = nat_le (preemptions item.program v) bound
+module _ (once : Bool) (bound : ℕ) (item : ItemView) where
+  abbrev its : ItemView → List (List ℕ)
+  its = schedules_of (up_to once bound)
 
   lows : (ds : List ItemView) → All (IsBelow item) ds →
-      filter low (flat_map (everything (Bounded bound)) ds)
-      ≡ flat_map (schedules_of (Bounded bound)) ds
-  unfolding schedules_within
+      filter (low once bound item) (flat_map (everything (up_to once bound)) ds)
+      ≡ flat_map its ds
   lows [] h = refl
   lows (d ∷ ds) h =
-      filter-append low (schedules_under d.program d.prefix) _
-      ∙ (λ k. filter (λ v. nat_le
-      (preemptions (sym (All-head (IsBelow item) d ds h).program k) v) bound)
-      (schedules_under d.program d.prefix) ++ lows ds (All-tail (IsBelow item) d ds h) k)
+      filter-append (low once bound item) (everything (up_to once bound) d) _
+      ∙ (λ k. (ap (λ (p : Program). filter (λ v. nat_le (preemptions p v) bound)
+      (everything (up_to once bound) d)) (sym (All-head (IsBelow item) d ds h).program)
+      ∙ sym (own_is once bound d)) k ++ lows ds (All-tail (IsBelow item) d ds h) k)
 
-  none_low : (ds : List ItemView) → All (IsBelow item) ds → All (IsDeferred bound) ds →
-      flat_map (schedules_of (Bounded bound)) ds ≡ []
-  none_low [] h k = refl
-  none_low (d ∷ ds) h k =
+  none_low : (ds : List ItemView) → All (IsDeferred bound) ds → flat_map its ds ≡ []
+  none_low [] k = refl
+  none_low (d ∷ ds) k =
       let e : preemptions d.program d.prefix ≡ bound + 1 = (All-head (IsDeferred bound) d ds k).past
-      in λ j. past_none d bound (All-head (IsBelow item) d ds h).item (omega (arith, e)) j
-      ++ none_low ds (All-tail (IsBelow item) d ds h) (All-tail (IsDeferred bound) d ds k) j
+      in λ j. bounded_none once bound d (omega (arith, e)) j
+      ++ none_low ds (All-tail (IsDeferred bound) d ds k) j
 
   all_low : (tried : List (List ℕ)) → All (λ v. preemptions item.program v ≤ bound) tried →
-      filter low tried ≡ tried
+      filter (low once bound item) tried ≡ tried
   all_low tried few =
-      sym (filter_whole low tried (λ v m. is_low (preemptions item.program v)
+      sym (filter_whole (low once bound item) tried (λ v m. is_low (preemptions item.program v)
       (All-contains (λ w. preemptions item.program w ≤ bound) tried v few
       (in_contains tried v m))))
     where
       is_low : (n : ℕ) → n ≤ bound → nat_le n bound ≡ true
       is_low n le = grind (arith, nat_tests, le)
 
-  low_parts : (part : SummaryView) (rest deferred : List ItemView)
-      (h : IsSplit (Bounded bound) item part rest deferred) →
-      filter low (h.tried ++ flat_map (everything (Bounded bound)) (rest ++ deferred))
-      ≡ h.tried ++ flat_map (schedules_of (Bounded bound)) rest
-  low_parts part rest deferred h =
-      filter-append low h.tried (flat_map (everything (Bounded bound)) (rest ++ deferred))
-      ∙ (λ k. all_low h.tried (few bound item part rest deferred h) k
+  low_parts : (part : SummaryView) (rest deferred : List ItemView) →
+      All (IsDeferred bound) deferred →
+      (h : IsSplit (up_to once bound) item part rest deferred) →
+      filter (low once bound item)
+      (h.tried ++ flat_map (everything (up_to once bound)) (rest ++ deferred))
+      ≡ h.tried ++ flat_map its rest
+  low_parts part rest deferred past h =
+      filter-append (low once bound item) h.tried
+      (flat_map (everything (up_to once bound)) (rest ++ deferred))
+      ∙ (λ k. all_low h.tried (few once bound item part rest deferred h) k
       ++ (lows (rest ++ deferred) h.below
-      ∙ (flat_map-append (schedules_of (Bounded bound)) rest deferred
-      ∙ (ap (λ L. flat_map (schedules_of (Bounded bound)) rest ++ L) (none_low deferred
-      (all_right (IsBelow item) rest deferred h.below) h.cut.past)
-      ∙ append-nil (flat_map (schedules_of (Bounded bound)) rest)))) k)
+      ∙ (flat_map-append its rest deferred
+      ∙ (ap (λ L. flat_map its rest ++ L) (none_low deferred past)
+      ∙ append-nil (flat_map its rest)))) k)
+
+without_deferred : (mode : Mode) (item : ItemView) (tried : List (List ℕ))
+    (rest deferred : List ItemView) → deferred ≡ [] →
+    IsPermutation (schedules_of mode item)
+    (tried ++ flat_map (schedules_of mode) (rest ++ deferred)) →
+    IsPermutation (schedules_of mode item) (tried ++ flat_map (schedules_of mode) rest)
+without_deferred mode item tried rest deferred none =
+    subst (λ is. IsPermutation (schedules_of mode item) (tried ++ flat_map (schedules_of mode) is))
+    (ap (λ is. rest ++ is) none ∙ append-nil rest)
 
 -- the item's schedules are what was tried and those of the rest
 pub split_moved : (mode : Mode) (item : ItemView) (part : SummaryView)
@@ -362,12 +503,16 @@ pub split_moved : (mode : Mode) (item : ItemView) (part : SummaryView)
 unfolding schedules_within
 split_moved (Bounded bound) item part rest deferred fits h =
     subst (IsPermutation (schedules_within item.program item.prefix bound))
-    (low_parts bound item part rest deferred h)
-    (filter-permutation (low bound item) _ _ (h.all fits))
+    (low_parts false bound item part rest deferred h.cut.past h)
+    (filter-permutation (low false bound item) _ _ (h.all fits))
 split_moved Reduced item part rest deferred fits h =
-    subst (λ is. IsPermutation (schedules_of Reduced item)
-    (h.tried ++ flat_map (schedules_of Reduced) is))
-    (ap (λ is. rest ++ is) h.cut.none ∙ append-nil rest) (h.all fits)
+    without_deferred Reduced item h.tried rest deferred h.cut.none (h.all fits)
+split_moved (BoundedOnce bound) item part rest deferred fits h =
+    subst (IsPermutation (schedules_of (BoundedOnce bound) item))
+    (low_parts true bound item part rest deferred h.cut.past h)
+    (filter-permutation (low true bound item) _ _ (h.all fits))
+split_moved ReducedOnce item part rest deferred fits h =
+    without_deferred ReducedOnce item h.tried rest deferred h.cut.none (h.all fits)
 
 module _ (mode : Mode) (item : ItemView) (part : SummaryView) (rest deferred : List ItemView)
     (fits : IsWithin mode item) (h : IsSplit mode item part rest deferred) where
@@ -390,35 +535,37 @@ module _ (mode : Mode) (item : ItemView) (part : SummaryView) (rest deferred : L
       (rest_has mode item part rest deferred h) (split_moved mode item part rest deferred fits
       h))))
 
-module _ (bound : ℕ) (item : ItemView) (part : SummaryView) (rest deferred : List ItemView)
-    (h : IsSplit (Bounded bound) item part rest deferred) where
-  -- each schedule past the bound lies under one of the rest or of what is deferred
-  pub split_past : HasAllPast bound item (rest ++ deferred)
-  split_past fits v c l =
-      go (Contains-append_cases h.tried left v
-      (Contains-permutation _ _ v (h.all fits) c))
-    where
-      left : List (List ℕ)
-      left = flat_map (everything (Bounded bound)) (rest ++ deferred)
+-- each of all its schedules past the bound lies under one of the rest or of what is deferred
+pub split_past : (once : Bool) (bound : ℕ) (item : ItemView) (part : SummaryView)
+    (rest deferred : List ItemView) → IsSplit (up_to once bound) item part rest deferred →
+    HasAllPast (up_to once bound) bound item (rest ++ deferred)
+split_past once bound item part rest deferred h fits v c l =
+    go (Contains-append_cases h.tried left v
+    (Contains-permutation _ _ v (h.all (within_at once bound item fits)) c))
+  where
+    left : List (List ℕ)
+    left = flat_map (everything (up_to once bound)) (rest ++ deferred)
 
-      go : Contains h.tried v ⊎ Contains left v → is_under (rest ++ deferred) v ≡ true
-      go (inl a) =
-          let le = All-contains (λ w. preemptions item.program w ≤ bound) h.tried v
-          (few bound item part rest deferred h) a in
-          absurd (omega (arith, le, l))
-      go (inr b) = under_all (Bounded bound) (rest ++ deferred) v (contains_in left v b)
+    go : Contains h.tried v ⊎ Contains left v → is_under (rest ++ deferred) v ≡ true
+    go (inl a) =
+        let le = All-contains (λ w. preemptions item.program w ≤ bound) h.tried v
+        (few once bound item part rest deferred h) a in
+        absurd (omega (arith, le, l))
+    go (inr b) = under_all (up_to once bound) (rest ++ deferred) v (contains_in left v b)
 
+module _ (mode : Mode) (item : ItemView) (part : SummaryView) (rest deferred : List ItemView)
+    (h : IsSplit mode item part rest deferred) where
   full_below : (ds : List ItemView) → All (IsBelow item) ds →
-      sum_of item.program (flat_map (everything (Bounded bound)) ds) ≡ full_sums ds
+      sum_of item.program (flat_map (everything mode) ds) ≡ full_sums mode ds
   full_below [] b = sum_of_none item.program
   full_below (d ∷ ds) b =
-      sum_of-append item.program (schedules_under d.program d.prefix) _
-      ∙ (λ k. join (sum_of (sym (All-head (IsBelow item) d ds b).program k)
-      (schedules_under d.program d.prefix)) (full_below ds (All-tail (IsBelow item) d ds b) k))
+      sum_of-append item.program (everything mode d) _
+      ∙ (λ k. join (sum_of (sym (All-head (IsBelow item) d ds b).program k) (everything mode d))
+      (full_below ds (All-tail (IsBelow item) d ds b) k))
 
   -- all schedules of an item, whatever their preemptions
-  pub split_full : preemptions item.program item.prefix ≤ bound →
-      full_sum item ≡ join (with_beyond part false) (full_sums (rest ++ deferred))
+  pub split_full : IsWithin mode item →
+      full_sum mode item ≡ join (with_beyond part false) (full_sums mode (rest ++ deferred))
   split_full fits =
       sum_of-permutation item.program _ _ (h.all fits)
       ∙ (sum_of-append item.program h.tried _

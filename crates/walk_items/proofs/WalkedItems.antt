@@ -2,7 +2,7 @@
 use Rattle.std.proofs.Common.{◌≡◌, ◌↔◌, ◌⊎◌, inl, inr, ℕ, zero, suc, ◌+◌, ◌<◌, ◌≤◌, Bool, true}
 use Rattle.std.proofs.Common.{false, not, cond, ◌||◌, nat_eq, nat_le, nat_lt, List, [], ◌∷◌, ◌++◌}
 use Rattle.std.proofs.Common.{length, map, get_or, refl, ap, ◌∙◌, sym, arith, subst, length-append}
-use Rattle.std.proofs.Common.{IsPermutation}
+use Rattle.std.proofs.Common.{IsPermutation, Option, None}
 use Rattle.std.specs.List.{filter, flat_map, list_any, All, AllPairs, Contains}
 use Rattle.std.proofs.lemmas.Bool.{not-true, not_from_false, or_parts, Decides.nat_tests}
 use Rattle.std.proofs.lemmas.List.{append-nil, get_or_append_left, get_or-append-add, get_or-map}
@@ -16,23 +16,28 @@ use Rattle.std.proofs.lemmas.List.Sorted.{Contains-permutation, length_permutati
 use Rattle.guest_code.specs.Program.{Program}
 use Rattle.semantics.specs.{Machine.{Snapshot, start}, Mask.{has, no_threads}, Waiters.In}
 use Rattle.semantics.proofs.ListMembers.{in_contains, contains_in, in_filter, in_map, from_map}
+use Rattle.semantics.proofs.ListMembers.{from_filter, in_flat_map, in_left, in_right}
 use Rattle.semantics.proofs.Masks.{empty_has}
-use Rattle.semantics_schedules.specs.{Order.precedes, Rising.IsRising}
-use Rattle.semantics_schedules.specs.Schedules.{state_after, begins_with, preemptions, complete_schedules, schedules_under, schedules_within, exceeds_bound}
+use Rattle.semantics_schedules.specs.EqualThreads.{hides_equal, is_hidden, is_unhidden, complete_once, reduced_once}
+use Rattle.semantics_schedules.specs.{Order.{is_complete, precedes}, Rising.IsRising}
+use Rattle.semantics_schedules.specs.Schedules.{begins_with, preemptions, complete_schedules, schedules_under, schedules_within, exceeds_bound, last_of}
 use Rattle.semantics_schedules.specs.Sleep.{reduced_schedules, is_kept, none_asleep}
 use Rattle.semantics_schedules.proofs.CompleteSchedulesRise.{all_rise}
 use Rattle.semantics_schedules.proofs.KeptSchedules.{reduced_members, kept_complete}
-use Rattle.semantics_schedules.proofs.ReducedSchedules.{any_in}
+use Rattle.semantics_schedules.proofs.ReducedSchedules.{any_in, in_all, schedules_cut_at}
 use Rattle.semantics_schedules.proofs.SchedulesUnderPrefix.{schedules_within-longer, in_under, in_within, beyond_is}
 use Rattle.semantics_schedules.proofs.StatedLaws.{complete}
-use Rattle.semantics_schedules.proofs.UnfoldingUnderPrefix.{schedules_within-past, exceeds_bound-past}
-use Rattle.walk_items.specs.Items.{ItemView, AreOf, IsItem, IsScheduleOf, state_of, root_of, schedules_of, goes_beyond, item_sum, item_sums, schedule_count, covers, is_under}
+use Rattle.walk_items.specs.Items.{ItemView, AreOf, IsItem, IsScheduleOf, state_of, root_of, schedules_of, goes_beyond, item_sum, item_sums, schedule_count, covers, is_under, unhidden_schedules, unhidden_kept}
+use Rattle.walk_items.specs.Once.{up_to}
 use Rattle.walk_items.specs.Walks.{WalkView, IsWalked, IsBelow, IsSplit, clear_of, tried_by}
 use Rattle.walk_items.specs.declared.mode.Mode.{Mode, TheVariants.{Bounded, Reduced}}
+use Rattle.walk_items.specs.declared.mode.Mode.TheVariants.{BoundedOnce, ReducedOnce}
 use Rattle.walk_summary.specs.Summaries.{SummaryView, cut, greatest_count, nothing, sum_of, join}
 use Rattle.walk_summary.specs.Summaries.{with_beyond}
 pub use Rattle.walk_items.specs.Walks.{HasItsOf}
-use Rattle.walk_items.proofs.{Children.{begins_own, under_own}, Covers.at_most_one}
+use Rattle.walk_items.proofs.Children.{begins_own, under_own, bounded_none, bounded_beyond}
+use Rattle.walk_items.proofs.{Covers.at_most_one, Reduced.filter_swap}
+use Rattle.walk_items.proofs.Unhidden.{preemptions_more, unhidden_below}
 use Rattle.walk_items.proofs.{Filters.{filter_all, filter_whole}, ListParts.all_left}
 use Rattle.walk_items.proofs.Permutations.{filter-permutation, sum_of-permutation}
 use Rattle.walk_summary.proofs.SumsJoin.{sum_of-append}
@@ -59,6 +64,24 @@ pub root_pruned : (p : Program) →
 root_pruned p =
     map-id (reduced_schedules p (start p) (has no_threads))
     ∙ (λ i. reduced_schedules p (start p) (λ t. empty_has t i))
+
+pub root_once_set : (p : Program) (bound : ℕ) →
+    schedules_of (BoundedOnce bound) (root_of p)
+    ≡ filter (λ w. nat_le (preemptions p w) bound) (complete_once p (start p) None)
+root_once_set p bound =
+    ap (filter (λ w. nat_le (preemptions p w) bound)) (map-id (complete_once p (start p) None))
+
+pub root_once_beyond : (p : Program) (bound : ℕ) →
+    goes_beyond (BoundedOnce bound) (root_of p)
+    ≡ list_any (λ w. nat_lt bound (preemptions p w)) (complete_once p (start p) None)
+root_once_beyond p bound =
+    ap (list_any (λ w. nat_lt bound (preemptions p w))) (map-id (complete_once p (start p) None))
+
+pub root_once_pruned : (p : Program) →
+    schedules_of ReducedOnce (root_of p) ≡ reduced_once p (start p) none_asleep
+root_once_pruned p =
+    map-id (reduced_once p (start p) (has no_threads))
+    ∙ (λ i. reduced_once p (start p) (λ t. empty_has t i))
 
 -- each item's schedules
 
@@ -100,6 +123,76 @@ item_kept i w = (there, back)
         (subst (In (schedules_of Reduced i)) (sym h.1)
         (in_map (λ v. i.prefix ++ v) left h.0 (contains_in left h.0 member)))
 
+-- with equal threads once
+module _ (i : ItemView) (w : List ℕ) where
+  abbrev p : Program
+  p = i.program
+
+  abbrev s : Snapshot
+  s = state_of i
+
+  abbrev Z : ℕ → Bool
+  Z = has i.mask
+
+  abbrev seen : List ℕ → Bool
+  seen = is_unhidden (is_hidden p) p s (last_of i.prefix)
+
+  abbrev seen_all : List ℕ → Bool
+  seen_all = is_unhidden (hides_equal p) p s None
+
+  pub item_once_members : (bound : ℕ) →
+      Contains (schedules_of (BoundedOnce bound) i) w ↔
+      ((v : List ℕ) × (w ≡ i.prefix ++ v) × (is_complete p s v ≡ true) × (seen v ≡ true)
+      × (preemptions p w ≤ bound))
+  unfolding complete_once
+  item_once_members bound = (there, back)
+    where
+      low : List ℕ → Bool
+      low u = nat_le (preemptions p u) bound
+
+      few : (n : ℕ) → nat_le n bound ≡ true → n ≤ bound
+      few n e = grind (arith, nat_tests, e)
+
+      there : Contains (schedules_of (BoundedOnce bound) i) w →
+          (v : List ℕ) × (w ≡ i.prefix ++ v) × (is_complete p s v ≡ true) × (seen v ≡ true)
+          × (preemptions p w ≤ bound)
+      there c =
+          let a = from_filter low (unhidden_schedules i) w (contains_in _ w c) in
+          let b = from_map (λ v. i.prefix ++ v) (complete_once p s (last_of i.prefix)) w a.0 in
+          let d = from_filter seen (complete_schedules p s) b.0 b.1 in
+          (b.0, sym b.2, in_all p s b.0 d.0, d.1, few (preemptions p w) a.1)
+
+      back : (v : List ℕ) × (w ≡ i.prefix ++ v) × (is_complete p s v ≡ true) × (seen v ≡ true)
+          × (preemptions p w ≤ bound) → Contains (schedules_of (BoundedOnce bound) i) w
+      back h =
+          let le = h.4 in
+          let m = in_map (λ v. i.prefix ++ v) (complete_once p s (last_of i.prefix)) h.0
+          (in_filter seen (complete_schedules p s) h.0 (schedules_cut_at p s h.0 h.2) h.3) in
+          in_contains _ w (in_filter low (unhidden_schedules i) w
+          (subst (In (unhidden_schedules i)) (sym h.1) m) (grind (arith, nat_tests, le)))
+
+  pub item_once_kept :
+      Contains (schedules_of ReducedOnce i) w ↔
+      ((v : List ℕ) × (w ≡ i.prefix ++ v) × (is_kept p s Z v ≡ true) × (seen_all v ≡ true))
+  unfolding reduced_once
+  item_once_kept = (there, back)
+    where
+      there : Contains (schedules_of ReducedOnce i) w →
+          (v : List ℕ) × (w ≡ i.prefix ++ v) × (is_kept p s Z v ≡ true) × (seen_all v ≡ true)
+      there c =
+          let b = from_map (λ v. i.prefix ++ v) (reduced_once p s Z) w (contains_in _ w c) in
+          let d = from_filter seen_all (reduced_schedules p s Z) b.0 b.1 in
+          (b.0, sym b.2, ((reduced_members p s Z b.0).0 (in_contains _ b.0 d.0)).1, d.1)
+
+      back : (v : List ℕ) × (w ≡ i.prefix ++ v) × (is_kept p s Z v ≡ true)
+          × (seen_all v ≡ true) → Contains (schedules_of ReducedOnce i) w
+      back h =
+          let kept = (reduced_members p s Z h.0).1
+          ((complete p s h.0).0 (kept_complete p s Z h.0 h.2), h.2) in
+          in_contains _ w (subst (In (unhidden_kept i)) (sym h.1)
+          (in_map (λ v. i.prefix ++ v) (reduced_once p s Z) h.0
+          (in_filter seen_all (reduced_schedules p s Z) h.0 (contains_in _ h.0 kept) h.3)))
+
 pub item_beyond : (i : ItemView) (bound : ℕ) →
     (goes_beyond (Bounded bound) i ≡ true) ↔
     ((w : List ℕ) × IsScheduleOf i w × (bound < preemptions i.program w))
@@ -124,16 +217,6 @@ in_order L rising i j d h k =
     subst (λ v. precedes v (get_or L j d) ≡ true) (any_default L i [] d (omega (arith, h, k)))
     (subst (λ w. precedes (get_or L i []) w ≡ true) (any_default L j [] d k) (rising i j h k))
 
-within_in_order : (p : Program) (prefix : List ℕ) (bound : ℕ) →
-    InOrder (schedules_within p prefix bound)
-unfolding schedules_within schedules_under
-within_in_order p prefix bound =
-    AllPairs-filter (λ v w. precedes v w ≡ true) (λ w. nat_le (preemptions p w) bound)
-    (filter (begins_with prefix) (complete_schedules p (start p)))
-    (AllPairs-filter (λ v w. precedes v w ≡ true) (begins_with prefix)
-    (complete_schedules p (start p))
-    (in_order (complete_schedules p (start p)) (all_rise p (start p))))
-
 precedes_after : (x v w : List ℕ) → precedes v w ≡ true → precedes (x ++ v) (x ++ w) ≡ true
 precedes_after [] v w h = h
 precedes_after (t ∷ x) v w h =
@@ -150,31 +233,61 @@ after_in_order x L h i j d less within =
     late k))
     ∙ precedes_after x (get_or L i d) (get_or L j d) (h i j d less late)
 
-kept_in_order : (p : Program) (prefix : List ℕ) (Z : ℕ → Bool) →
-    InOrder (map (λ w. prefix ++ w) (reduced_schedules p (state_after p (start p) prefix) Z))
-unfolding reduced_schedules
-kept_in_order p prefix Z =
-    let s : Snapshot = state_after p (start p) prefix in
-    after_in_order prefix (filter (is_kept p s Z) (complete_schedules p s))
-    (AllPairs-filter (λ v w. precedes v w ≡ true) (is_kept p s Z) (complete_schedules p s)
-    (in_order (complete_schedules p s) (all_rise p s)))
+some_in_order : (test : List ℕ → Bool) (L : List (List ℕ)) → InOrder L → InOrder (filter test L)
+some_in_order = AllPairs-filter (λ v w. precedes v w ≡ true)
+
+module _ (p : Program) (s : Snapshot) where
+  complete_in_order : InOrder (complete_schedules p s)
+  complete_in_order = in_order (complete_schedules p s) (all_rise p s)
+
+  reduced_in_order : (Z : ℕ → Bool) → InOrder (reduced_schedules p s Z)
+  unfolding reduced_schedules
+  reduced_in_order Z = some_in_order (is_kept p s Z) (complete_schedules p s) complete_in_order
+
+  once_in_order : (last : Option ℕ) → InOrder (complete_once p s last)
+  unfolding complete_once
+  once_in_order last = some_in_order (is_unhidden (is_hidden p) p s last) (complete_schedules p s)
+      complete_in_order
+
+  reduced_once_in_order : (Z : ℕ → Bool) → InOrder (reduced_once p s Z)
+  unfolding reduced_once
+  reduced_once_in_order Z = some_in_order (is_unhidden (hides_equal p) p s None)
+      (reduced_schedules p s Z) (reduced_in_order Z)
+
+within_in_order : (p : Program) (prefix : List ℕ) (bound : ℕ) →
+    InOrder (schedules_within p prefix bound)
+unfolding schedules_within schedules_under
+within_in_order p prefix bound =
+    some_in_order (λ w. nat_le (preemptions p w) bound)
+    (filter (begins_with prefix) (complete_schedules p (start p)))
+    (some_in_order (begins_with prefix) (complete_schedules p (start p))
+    (complete_in_order p (start p)))
 
 items_in_order : (mode : Mode) (i : ItemView) → InOrder (schedules_of mode i)
 items_in_order (Bounded bound) i = within_in_order i.program i.prefix bound
-items_in_order Reduced i = kept_in_order i.program i.prefix (has i.mask)
+items_in_order Reduced i =
+    after_in_order i.prefix (reduced_schedules i.program (state_of i) (has i.mask))
+    (reduced_in_order i.program (state_of i) (has i.mask))
+items_in_order (BoundedOnce bound) i =
+    some_in_order (λ w. nat_le (preemptions i.program w) bound) (unhidden_schedules i)
+    (after_in_order i.prefix (complete_once i.program (state_of i) (last_of i.prefix))
+    (once_in_order i.program (state_of i) (last_of i.prefix)))
+items_in_order ReducedOnce i =
+    after_in_order i.prefix (reduced_once i.program (state_of i) (has i.mask))
+    (reduced_once_in_order i.program (state_of i) (has i.mask))
 
 pub item_rises : (mode : Mode) (i : ItemView) → IsRising (schedules_of mode i)
 item_rises mode item i j h k = items_in_order mode item i j [] h k
 
 -- an item whose own prefix is past the bound
 
-pub past_none : (i : ItemView) (bound : ℕ) → IsItem i → bound < preemptions i.program i.prefix →
-    schedules_of (Bounded bound) i ≡ []
-past_none i bound h past = schedules_within-past i.program i.prefix bound h past
+pub past_none : (once : Bool) (i : ItemView) (bound : ℕ) → IsItem i →
+    bound < preemptions i.program i.prefix → schedules_of (up_to once bound) i ≡ []
+past_none once i bound h past = bounded_none once bound i past
 
-pub past_beyond : (i : ItemView) (bound : ℕ) → IsItem i → bound < preemptions i.program i.prefix →
-    goes_beyond (Bounded bound) i ≡ true
-past_beyond i bound h past = exceeds_bound-past i.program i.prefix bound h past
+pub past_beyond : (once : Bool) (i : ItemView) (bound : ℕ) → IsItem i →
+    bound < preemptions i.program i.prefix → goes_beyond (up_to once bound) i ≡ true
+past_beyond once i bound h past = bounded_beyond once bound i h past
 
 -- sums
 
@@ -234,6 +347,36 @@ bounded_has bound above below b =
     ap (λ (p : Program). schedules_within p below.prefix bound) b.program
     ∙ schedules_within-longer above.program above.prefix below.prefix bound b.prefix
 
+-- with equal threads once: a rest that is reached by a step of a hidden thread has none at all
+once_has : (bound : ℕ) (item : ItemView) (part : SummaryView) (rest deferred : List ItemView) →
+    IsSplit (BoundedOnce bound) item part rest deferred →
+    All (HasItsOf (BoundedOnce bound) item) rest
+once_has bound item part rest deferred h k d l =
+    (λ j. filter (λ w. nat_le (preemptions (below.program j) w) bound)
+    (unhidden_below item r below own j))
+    ∙ filter_swap (λ w. nat_le (preemptions item.program w) bound) (begins_with r.prefix)
+    (unhidden_schedules item)
+  where
+    r : ItemView
+    r = get_or rest k d
+
+    below : IsBelow item r
+    below = all_left (IsBelow item) rest deferred h.below k d l
+
+    fits : preemptions item.program item.prefix ≤ bound
+    fits =
+        let low = h.cut.within k d l in
+        let same = ap (λ (q : Program). preemptions q r.prefix) below.program in
+        let more = preemptions_more item.program item.prefix r.prefix below.prefix in
+        omega (arith, low, same, more)
+
+    own : (v : List ℕ) → In (unhidden_schedules r) v → In (unhidden_schedules item) v
+    own v m =
+        contains_in (unhidden_schedules item) v
+        (Contains-permutation _ _ v (IsPermutation-sym _ _ (h.all fits))
+        (in_contains _ v (in_right h.tried _ v (in_flat_map unhidden_schedules (rest ++ deferred) r
+        v (in_left rest deferred r (contains_in rest r (All-contains_itself rest k d l))) m))))
+
 -- each of the rest has the item's that begin with its prefix
 pub rest_has : (mode : Mode) (item : ItemView) (part : SummaryView)
     (rest deferred : List ItemView) → IsSplit mode item part rest deferred →
@@ -242,6 +385,8 @@ rest_has (Bounded bound) item part rest deferred h =
     All-weaker (IsBelow item) (HasItsOf (Bounded bound) item)
     (λ r b. bounded_has bound item r b) rest (all_left (IsBelow item) rest deferred h.below)
 rest_has Reduced item part rest deferred h = h.cut.schedules
+rest_has (BoundedOnce bound) item part rest deferred h = once_has bound item part rest deferred h
+rest_has ReducedOnce item part rest deferred h = h.cut.schedules
 
 pub walked_has : (w : WalkView) → IsWalked w → All (HasItsOf w.mode w.item) w.rest
 walked_has w h = rest_has w.mode w.item w.part w.rest w.deferred h.split

@@ -1,15 +1,19 @@
 -- Items: the complete schedules that begin with a prefix, and their sums.
 use Rattle.std.specs.Prelude.{◌≡◌, ℕ, ◌+◌, Bool, true, false, List, All, [], ◌∷◌, ◌++◌, length, map}
+use Rattle.std.specs.Prelude.{filter, nat_le, nat_lt}
 use Rattle.std.specs.{Arc.arc_value, List.list_any, declared.alloc.Global.Global}
 use Rattle.std.specs.declared.sync.Arc.{Arc}
 use Rattle.guest_code.specs.Program.{Program}
 use Rattle.semantics.specs.{Machine.{Snapshot, start}, Mask.{no_threads, has, one_if}}
 use Rattle.semantics.specs.declared.mask.Mask.{Mask}
+use Rattle.semantics_schedules.specs.EqualThreads.{complete_once, reduced_once}
 use Rattle.semantics_schedules.specs.Order.{is_complete}
 use Rattle.semantics_schedules.specs.Schedules.{state_after, runs, begins_with, schedules_under}
-use Rattle.semantics_schedules.specs.Schedules.{schedules_within, exceeds_bound}
+use Rattle.semantics_schedules.specs.Schedules.{schedules_within, exceeds_bound, preemptions}
+use Rattle.semantics_schedules.specs.Schedules.{last_of}
 use Rattle.semantics_schedules.specs.Sleep.{reduced_schedules}
 use Rattle.walk_items.specs.declared.mode.Mode.{Mode, TheVariants.{Bounded, Reduced}}
+use Rattle.walk_items.specs.declared.mode.Mode.TheVariants.{BoundedOnce, ReducedOnce}
 use Rattle.walk_summary.specs.Summaries.{SummaryView, nothing, sum_of, join, with_beyond}
 
 -- what contracts see of an item: a prefix of a program's schedules, and the threads that sleep
@@ -56,21 +60,41 @@ kept_schedules i =
     map (λ w. i.prefix ++ w)
     (reduced_schedules i.program (state_after i.program (start i.program) i.prefix) (has i.mask))
 
+-- the complete schedules that begin with an item's prefix and go on without a step of a hidden
+-- thread, where the thread of the step before is never hidden, and hides nobody
+abbrev pub unhidden_schedules : ItemView → List (List ℕ)
+unhidden_schedules i =
+    map (λ w. i.prefix ++ w) (complete_once i.program (state_of i) (last_of i.prefix))
+
+-- what sleep sets leave of the complete schedules that begin with an item's prefix and go on without
+-- a step of a hidden thread, which the thread of the step before may be too
+abbrev pub unhidden_kept : ItemView → List (List ℕ)
+unhidden_kept i = map (λ w. i.prefix ++ w) (reduced_once i.program (state_of i) (has i.mask))
+
 -- the schedules of an item in a mode: of the complete ones that begin with its prefix, those within
--- the bound, or those that sleep sets leave
+-- the bound, or those that sleep sets leave; where equal threads are once, only those that go on
+-- without a step of a hidden thread
 abbrev pub schedules_of : Mode → ItemView → List (List ℕ)
 schedules_of (Bounded bound) i = schedules_within i.program i.prefix bound
 schedules_of Reduced i = kept_schedules i
+schedules_of (BoundedOnce bound) i =
+    filter (λ w. nat_le (preemptions i.program w) bound) (unhidden_schedules i)
+schedules_of ReducedOnce i = unhidden_kept i
 
 -- all of these, also those past the bound
 abbrev pub everything : Mode → ItemView → List (List ℕ)
 everything (Bounded bound) i = schedules_under i.program i.prefix
 everything Reduced i = kept_schedules i
+everything (BoundedOnce bound) i = unhidden_schedules i
+everything ReducedOnce i = unhidden_kept i
 
--- whether one that begins with its prefix is beyond the bound; without a bound none is
+-- whether one of all these is beyond the bound; without a bound none is
 abbrev pub goes_beyond : Mode → ItemView → Bool
 goes_beyond (Bounded bound) i = exceeds_bound i.program i.prefix bound
 goes_beyond Reduced i = false
+goes_beyond (BoundedOnce bound) i =
+    list_any (λ w. nat_lt bound (preemptions i.program w)) (unhidden_schedules i)
+goes_beyond ReducedOnce i = false
 
 -- the sum of an item's schedules
 abbrev pub item_sum : Mode → ItemView → SummaryView

@@ -5,11 +5,12 @@ use Rattle.std.specs.Prelude.{◌++◌, filter, map, flat_map, All, Contains}
 use Rattle.std.specs.{List.list_any, List.Sorted.IsPermutation, declared.alloc.Global.Global}
 use Rattle.std.specs.declared.vec.Vec.{Vec}
 use Rattle.guest_code.specs.Program.{Program}
-use Rattle.semantics_schedules.specs.Schedules.{begins_with, preemptions, schedules_under}
+use Rattle.semantics_schedules.specs.Schedules.{begins_with, preemptions}
 use Rattle.semantics.specs.Mask.{one_if}
 use Rattle.walk_items.specs.Items.{ItemView, IsItem, item_at, schedules_of, everything, goes_beyond}
 use Rattle.walk_items.specs.Items.{covers, is_under}
 use Rattle.walk_items.specs.declared.mode.Mode.{Mode, TheVariants.{Bounded, Reduced}}
+use Rattle.walk_items.specs.declared.mode.Mode.TheVariants.{BoundedOnce, ReducedOnce}
 use Rattle.walk_summary.specs.Summaries.{SummaryView, nothing, sum_of, with_beyond}
 
 -- what contracts see of a walk
@@ -57,12 +58,12 @@ pub record IsDeferred (bound : ℕ) (i : ItemView) : Type 0 where
   pub within : preemptions i.program stem ≡ bound
   pub past : preemptions i.program i.prefix ≡ bound + 1
 
--- each of the item's complete schedules past the bound lies under one of these, where the item
+-- each of all the item's schedules that is past the bound lies under one of these, where the item
 -- itself is within it
-abbrev pub HasAllPast : ℕ → ItemView → List ItemView → Type 0
-HasAllPast bound item items =
+abbrev pub HasAllPast : Mode → ℕ → ItemView → List ItemView → Type 0
+HasAllPast mode bound item items =
     preemptions item.program item.prefix ≤ bound → (v : List ℕ) →
-    Contains (schedules_under item.program item.prefix) v → bound < preemptions item.program v →
+    Contains (everything mode item) v → bound < preemptions item.program v →
     is_under items v ≡ true
 
 -- the prefixes of the rest are within the bound, those that are deferred just past it
@@ -76,19 +77,23 @@ HasItsOf mode item r = schedules_of mode r ≡ filter (begins_with r.prefix) (sc
 
 -- where schedules are pruned nothing is deferred, and each of the rest has the item's schedules
 -- that begin with its prefix (at a bound this follows)
-pub record IsPruned (item : ItemView) (rest deferred : List ItemView) : Type 0 where
+pub record IsPruned (mode : Mode) (item : ItemView) (rest deferred : List ItemView) : Type 0 where
   pub none : deferred ≡ []
-  pub schedules : All (HasItsOf Reduced item) rest
+  pub schedules : All (HasItsOf mode item) rest
 
 -- what each mode keeps besides
 abbrev pub IsCut : Mode → ItemView → List ItemView → List ItemView → Type 0
 IsCut (Bounded bound) item = IsCutAt bound
-IsCut Reduced item = IsPruned item
+IsCut Reduced item = IsPruned Reduced item
+IsCut (BoundedOnce bound) item = IsCutAt bound
+IsCut ReducedOnce item = IsPruned ReducedOnce item
 
 -- the item's prefix stays within the bound
 abbrev pub IsWithin : Mode → ItemView → Type 0
 IsWithin (Bounded bound) i = preemptions i.program i.prefix ≤ bound
 IsWithin Reduced i = Unit {0}
+IsWithin (BoundedOnce bound) i = preemptions i.program i.prefix ≤ bound
+IsWithin ReducedOnce i = Unit {0}
 
 -- an item is split: of its schedules some were tried, and the part is their sum; where the item is
 -- within the bound, all that begins with its prefix is what was tried and what begins with those of
@@ -119,6 +124,8 @@ pub record IsWalked (w : WalkView) : Type 0 where
 abbrev pub IsPastBound : Mode → ItemView → Type 0
 IsPastBound (Bounded bound) i = bound < preemptions i.program i.prefix
 IsPastBound Reduced i = ⊥
+IsPastBound (BoundedOnce bound) i = bound < preemptions i.program i.prefix
+IsPastBound ReducedOnce i = ⊥
 
 -- the walk of such an item: nothing is tried, nothing is left, nothing is put off
 abbrev pub walk_past_bound : Mode → ItemView → WalkView

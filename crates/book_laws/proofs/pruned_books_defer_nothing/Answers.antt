@@ -1,7 +1,5 @@
-use Rattle.std.proofs.Common.{subst}
-use Rattle.walk_items.specs.{Walks.IsCut, declared.mode.Mode.Mode}
+use Rattle.walk_items.proofs.Splits.{pruned_none}
 use Rattle.book_laws.proofs.pruned_books_defer_nothing.Goals as goal
 
 pub returns : goal.returns
-returns c = λ b e h.
-    (subst (λ (n : Mode). IsCut n b.of b.open_items b.deferred) e h.split.cut).none
+returns c = λ b once e h. pruned_none b.mode once b.of b.open_items b.deferred e h.split.cut

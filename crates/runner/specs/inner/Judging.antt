@@ -3,12 +3,13 @@ use Rattle.std.specs.Prelude.{◌≡◌, ◌<◌, ◌+◌, ◌-◌, ℕ, [], ◌
 use Rattle.std.specs.Prelude.{Option, Some, None}
 use Rattle.std.specs.declared.{alloc.Global.Global, vec.Vec.Vec}
 use Rattle.guest_code.specs.Program.{Program}
-use Rattle.walk_items.specs.{Items.{ItemView, whole}, Walks.listed_if, declared.mode.Mode.Mode}
-use Rattle.walk_items.specs.declared.mode.Mode.TheVariants.{Bounded, Reduced}
+use Rattle.walk_items.specs.{Items.{ItemView, whole}, Once.{up_to, pruned}, Walks.listed_if}
+use Rattle.walk_items.specs.declared.mode.Mode.{Mode, TheVariants.{Bounded, Reduced}}
+use Rattle.walk_items.specs.declared.mode.Mode.TheVariants.{BoundedOnce, ReducedOnce}
 use Rattle.semantics_schedules.specs.Schedules.{preemptions}
-use Rattle.walk_summary.specs.Summaries.{SummaryView, end_kind}
+use Rattle.walk_summary.specs.Summaries.{SummaryView, IsBoundedBy, end_kind}
 use Rattle.book.specs.{Books.BookView, Progress.mode_bound}
-use Rattle.runner_report.specs.Reports.{NoBadBelow, SomeExceeds, IsSummaryOf, IsCause, IsFinished}
+use Rattle.runner_report.specs.Reports.{NoBadBelow, SomeExceeds, IsCause, IsFinished}
 use Rattle.runner_report.specs.declared.{level.Level.Level, options.Options.Options}
 use Rattle.runner_report.specs.declared.options.Search.{Search, TheVariants.{UpTo, Unbounded}}
 use Rattle.runner_report.specs.declared.report.{Cause.Cause, Report.Report, Verdict.Verdict}
@@ -25,21 +26,23 @@ pub record HasPassedBounds (p : Program) (bound : ℕ) : Type 0 where
   pub past : (b : ℕ) → b < bound → SomeExceeds p b
 
 -- the first mode of a search at which something is tried of what is under a prefix with this many
--- preemptions
-abbrev pub first_mode : Search → ℕ → Mode
-first_mode (UpTo last) preemptions = Bounded preemptions
-first_mode Unbounded preemptions = Reduced
+-- preemptions, with equal threads once or not
+abbrev pub first_mode : Bool → Search → ℕ → Mode
+first_mode once (UpTo last) preemptions = up_to once preemptions
+first_mode once Unbounded preemptions = pruned once
 
 -- whether what a mode puts off is listed: it is where the search may go on to another bound
 abbrev pub lists_at : Search → Mode → Bool
 lists_at (UpTo last) (Bounded bound) = nat_lt bound last
+lists_at (UpTo last) (BoundedOnce bound) = nat_lt bound last
 lists_at (UpTo last) Reduced = false
+lists_at (UpTo last) ReducedOnce = false
 lists_at Unbounded mode = false
 
 -- a search under an item has come to the mode of its book, and the bounds below are passed
 pub record IsAt (i : ItemView) (o : Options) (b : BookView) : Type 0 where
   pub is : IsOf b i b.mode o.quick (lists_at o.search b.mode)
-  pub of : IsModeOf o.search b.mode
+  pub of : IsModeOf o.symmetry o.search b.mode
   pub passed : HasPassed i b.mode
 
 -- these are the levels of the bounds below, where levels are kept at all
@@ -75,16 +78,27 @@ begun search b = record b {
 abbrev pub IsBoundBelow : Mode → Option ℕ → Type 0
 IsBoundBelow (Bounded bound) (Some below) = bound ≡ below + 1
 IsBoundBelow (Bounded bound) None = bound ≡ 0
+IsBoundBelow (BoundedOnce bound) (Some below) = bound ≡ below + 1
+IsBoundBelow (BoundedOnce bound) None = bound ≡ 0
 IsBoundBelow Reduced (Some below) = ⊥
 IsBoundBelow Reduced None = Unit {0}
+IsBoundBelow ReducedOnce (Some below) = ⊥
+IsBoundBelow ReducedOnce None = Unit {0}
 
 -- the last bound that was finished, where a search is cut short in a mode
 abbrev pub IsFinishedIn : Program → Mode → Option ℕ → Type 0
 IsFinishedIn p (Bounded bound) finished = IsFinished p bound finished
+IsFinishedIn p (BoundedOnce bound) finished = IsFinished p bound finished
 IsFinishedIn p Reduced finished = finished ≡ None
+IsFinishedIn p ReducedOnce finished = finished ≡ None
+
+-- what a summary says of another: that of a quick search is only bounded by it
+abbrev pub IsSummaryOf : Bool → SummaryView → SummaryView → Type 0
+IsSummaryOf false sum all = sum ≡ all
+IsSummaryOf true sum all = IsBoundedBy sum all
 
 -- the summary is that of the whole program in a mode where it has no bad schedule, and else what a
--- report says of the whole
+-- search, quick or not, says of the whole
 pub record IsFound (quick : Bool) (p : Program) (mode : Mode) (s : SummaryView) : Type 0 where
   pub sum : IsSummaryOf quick s (whole p mode)
   pub clean : s.first_bad ≡ None → s ≡ whole p mode
@@ -129,7 +143,9 @@ pub record HasEnded (may : Bool) (c : Course) (r : Course × Ending) : Type 0 wh
 -- how many bounds a search may still come to
 abbrev pub bounds_left : Search → Mode → ℕ
 bounds_left (UpTo last) (Bounded bound) = last - bound
+bounds_left (UpTo last) (BoundedOnce bound) = last - bound
 bounds_left (UpTo last) Reduced = 0
+bounds_left (UpTo last) ReducedOnce = 0
 bounds_left Unbounded mode = 0
 
 -- the verdict on a sum of all: on its bad schedule the preemptions, the schedule itself, and how it
@@ -148,4 +164,5 @@ report_in o mode sum verdict = record {
   verdict = verdict;
   summary = sum;
   quick = o.quick;
+  symmetry = o.symmetry;
 }

@@ -2,7 +2,7 @@
 use Rattle.std.specs.Prelude.{◌≡◌, ℕ, ◌+◌, ◌*◌, ◌<◌, ◌≤◌, length, take, drop, All}
 use Rattle.guest_code.specs.Program.{Program, LocalsBelow}
 use Rattle.semantics.specs.Machine.{Snapshot, thread_at}
-use Rattle.semantics_machine.specs.Refinement.{HasObjects, HasThreadAt, HaveSameCode, locals_at}
+use Rattle.semantics_machine.specs.Refinement.{HasObjects, HasEachWithSome, HasThreadAt, HaveSameCode, locals_at}
 use Rattle.semantics_machine.specs.{Touches.AreTouches, declared.control.Control.Control}
 use Rattle.semantics_machine.specs.{declared.machine.Machine.Machine, inner.Parts.IsIdle}
 
@@ -25,3 +25,4 @@ pub record IsOpening (p : Program) (s : Snapshot) (k : ℕ) (m : Machine) : Type
   pub wide : All (λ th. All (LocalsBelow m.shape.width) th.code) p.threads
   pub touches : AreTouches p m.shape.touches
   pub same_code : HaveSameCode p m.shape.same_code
+  pub with_equal : HasEachWithSome m.shape.with_equal m.shape.same_code

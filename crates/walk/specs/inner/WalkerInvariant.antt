@@ -4,9 +4,9 @@ use Rattle.semantics_machine.specs.declared.machine.Run.{Run}
 use Rattle.guest_code.specs.Program.{Program}
 use Rattle.semantics.specs.{Machine.is_enabled, Mask.{has, HasEnabled, members_from, one_if}}
 use Rattle.semantics.specs.declared.mask.Mask.{Mask}
-use Rattle.walk_items.specs.{Children.{child_of, children_of, cost_of, costs}, Items.ItemView}
+use Rattle.walk_items.specs.{Children.{child_of, children_of, cost_of, costs, is_hidden_after}, Items.ItemView}
 use Rattle.walk_items.specs.{Walks.{IsWalked, items_at, listed_if}, declared.mode.Mode.Mode}
-use Rattle.walk_items.specs.declared.mode.Mode.TheVariants.{Bounded, Reduced}
+use Rattle.walk_items.specs.declared.mode.Mode.TheVariants.{Bounded, Reduced, BoundedOnce, ReducedOnce}
 use Rattle.walk.specs.declared.{found.Found.Found, path.Frame.Frame, path.Node.Node, path.Path.Path}
 use Rattle.walk.specs.inner.Paths.{used_frames, is_preempting, frame_at, state_at, IsPath, ReachesNode}
 use Rattle.walk_prefixes.specs.PrefixLists.{last_of}
@@ -136,31 +136,65 @@ turns_next mode p t u false = turns_from mode p t
 abbrev pub is_kept_at : Mode → Mask → Node → ℕ → Bool
 is_kept_at (Bounded bound) e n t = nat_le (n.used + one_if (is_preempting e n t)) bound
 is_kept_at Reduced e n t = not (has n.asleep t)
+is_kept_at (BoundedOnce bound) e n t = nat_le (n.used + one_if (is_preempting e n t)) bound
+is_kept_at ReducedOnce e n t = not (has n.asleep t)
+
+-- and the thread isn't hidden after the item's prefix
+abbrev pub is_tried_at : Mode → ItemView → Mask → Node → ℕ → Bool
+is_tried_at mode i e n t = is_kept_at mode e n t && not (is_hidden_after mode i t)
 
 -- it passes the bound
 abbrev pub is_past_at : Mode → Mask → Node → ℕ → Bool
 is_past_at (Bounded bound) e n t = nat_lt bound (n.used + one_if (is_preempting e n t))
 is_past_at Reduced e n t = false
+is_past_at (BoundedOnce bound) e n t = nat_lt bound (n.used + one_if (is_preempting e n t))
+is_past_at ReducedOnce e n t = false
+
+-- and the thread isn't hidden
+abbrev pub is_put_off_at : Mode → ItemView → Mask → Node → ℕ → Bool
+is_put_off_at mode i e n t = is_past_at mode e n t && not (is_hidden_after mode i t)
 
 -- the node's preemptions are within the bound
 abbrev pub IsWithinAt : Mode → Node → Type 0
 IsWithinAt (Bounded bound) n = n.used ≤ bound
 IsWithinAt Reduced n = Unit {0}
+IsWithinAt (BoundedOnce bound) n = n.used ≤ bound
+IsWithinAt ReducedOnce n = Unit {0}
 
 -- they are not
 abbrev pub is_past_here : Mode → Node → Bool
 is_past_here (Bounded bound) n = nat_lt bound n.used
 is_past_here Reduced n = false
+is_past_here (BoundedOnce bound) n = nat_lt bound n.used
+is_past_here ReducedOnce n = false
 
 -- the node is at the bound
 abbrev pub IsAtBound : Mode → Node → Type 0
 IsAtBound (Bounded bound) n = n.used ≡ bound
 IsAtBound Reduced n = ⊥
+IsAtBound (BoundedOnce bound) n = n.used ≡ bound
+IsAtBound ReducedOnce n = ⊥
 
 -- whether it is
 abbrev pub at_bound : Mode → Node → Bool
 at_bound (Bounded bound) n = nat_eq n.used bound
 at_bound Reduced n = false
+at_bound (BoundedOnce bound) n = nat_eq n.used bound
+at_bound ReducedOnce n = false
+
+-- whether equal threads are tried once
+abbrev pub is_once : Mode → Bool
+is_once (Bounded bound) = false
+is_once Reduced = false
+is_once (BoundedOnce bound) = true
+is_once ReducedOnce = true
+
+-- whether a run goes on while the same threads are enabled: not where equal threads are once
+abbrev pub runs_on : Mode → Node → Bool
+runs_on (Bounded bound) n = nat_eq n.used bound
+runs_on Reduced n = false
+runs_on (BoundedOnce bound) n = false
+runs_on ReducedOnce n = false
 
 -- no step of an enabled thread passes the bound
 abbrev pub IsFree : Mode → Program → Path → Type 0
@@ -203,3 +237,4 @@ pub record IsExtended (p : Program) (mode : Mode) (old new : Path) (t : ℕ) (sl
   pub among : heedless ≡ false → (k : ℕ) → 1 ≤ k → k < run.steps
       → HasEnabled run.among p (state_at p (old.steps.items ++ replicate k t))
   pub bound : 1 < run.steps → at_bound mode new.node ≡ true
+  pub alike : heedless ≡ false → 1 < run.steps → runs_on mode new.node ≡ true

@@ -3,7 +3,7 @@ use Rattle.std.specs.Prelude.{◌≡◌, ℕ, true, false, List, [], ◌∷◌, 
 use Rattle.guest_code.specs.Program.{Program}
 use Rattle.semantics_schedules.specs.Schedules.{begins_with}
 use Rattle.walk_items.specs.{Items.{ItemView, root_of, everything}, declared.mode.Mode.Mode}
-use Rattle.walk_cover.specs.{Covers.IsCover, declared.covering.CoverError.CoverError}
+use Rattle.walk_cover.specs.{Covers.{IsCover, plain}, declared.covering.CoverError.CoverError}
 use Rattle.walk_cover.specs.declared.covering.CoverError.TheVariants.{Missing, Nested, Unused, OutOfMemory}
 
 -- no prefix of the list begins the item's, unless it is the item's own
@@ -21,7 +21,7 @@ pub record IsReached (mode : Mode) (p : Program) (prefixes : List (List ℕ))
 -- the list
 pub record IsBare (mode : Mode) (p : Program) (prefixes : List (List ℕ)) (i : ItemView) :
     Type 0 where
-  pub only : filter (begins_with i.prefix) (everything mode (root_of p)) ≡ i.prefix ∷ []
+  pub only : filter (begins_with i.prefix) (everything (plain mode) (root_of p)) ≡ i.prefix ∷ []
   pub bare : All (λ x. begins_with x i.prefix ≡ false) prefixes
 
 -- why the prefix is that of none of the items: that of one begins it, or none does

@@ -4,22 +4,22 @@ use Rattle.semantics_schedules.specs.Schedules.{preemptions}
 use Rattle.walk_items.specs.Items.{ItemView}
 use Rattle.runner_report.specs.declared.options.Options.{Options}
 use Rattle.runner.specs.{Levels.AreLevels, inner.Judging.Ends}
-use Rattle.runner.proofs.AfterRounds.{course_at, course_itself, ended_at, unquick}
+use Rattle.runner.proofs.AfterRounds.{course_at, course_itself, ended_at, plainly}
 use Rattle.runner.proofs.Judgments.{past_levels_end}
 use Rattle.runner.proofs.together.explore_under.Goals as goal
 
 pub search-requires-clause-at : goal.search-requires-clause-at
 search-requires-clause-at g c = λ k l.
-    course_at c.args.item (unquick c.args.options) true c.in_ok-course.course
+    course_at c.args.item (plainly c.args.options) true c.in_ok-course.course
     c.in_ok-course.ensures.course
 
 pub levels_at_end-requires-clause-course : goal.levels_at_end-requires-clause-course
 levels_at_end-requires-clause-course g c =
-    let both = ended_at c.args.item (unquick c.args.options) true
+    let both = ended_at c.args.item (plainly c.args.options) true
     (g.G.Gate.stops c.args.gate.now) c.in_ok-course.course
     (c.in_ok-course-2.course, c.in_ok-course-2.ending) c.in_ok-course.ensures.course
     c.in_ok-course-2.ensures.ended in
-    course_itself c.args.item (unquick c.args.options) true c.in_ok-course-2.course both.0
+    course_itself c.args.item (plainly c.args.options) true c.in_ok-course-2.course both.0
 
 pub returns-in-Some-clause-levels : goal.returns-in-Some-clause-levels
 returns-in-Some-clause-levels g c =
@@ -38,7 +38,7 @@ returns-in-Some-clause-levels g c =
 
 pub returns-clause-levels : goal.returns-clause-levels
 returns-clause-levels g c =
-    let o = unquick c.args.options in
+    let o = plainly c.args.options in
     let may = g.G.Gate.stops c.args.gate.now in
     let r = c.in_ok-course-2.course in
     let both = ended_at c.args.item o true may c.in_ok-course.course

@@ -1,4 +1,4 @@
-use Rattle.walk_items.proofs.Once.{once_terminal, once_more}
+use Rattle.walk_items.proofs.Unhidden.{once_terminal, once_more}
 use Rattle.walk_items.proofs.laws.equal_threads_once_unfold.Goals as goal
 
 pub returns : goal.returns

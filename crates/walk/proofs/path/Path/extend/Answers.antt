@@ -1,9 +1,12 @@
-use Rattle.std.proofs.Common.{◌≡◌, arith, ◌+◌, ◌∙◌, ◌<◌, ◌≤◌, ◌++◌, ◌&&◌, ℕ, Bool, true, false}
+use Rattle.std.proofs.Common.{◌≡◌, arith, ◌+◌, ◌∙◌, ◌<◌, ◌≤◌, ◌++◌, ◌&&◌, ◌||◌, ℕ, Bool, true, false}
 use Rattle.std.proofs.Common.{List, replicate, refl, ap}
 use Rattle.semantics.specs.{Machine.is_enabled, Mask.{HasEnabled, one_if}}
 use Rattle.semantics_schedules.{specs.Schedules.preempts, proofs.Executions.reaches_few}
 use Rattle.semantics_schedules.proofs.ScheduleLengths.{schedule_within}
-use Rattle.walk.specs.inner.{Paths.state_at, WalkerInvariant.at_bound}
+use Rattle.walk.specs.inner.{Paths.state_at, WalkerInvariant.{at_bound, runs_on}}
+use Rattle.std.proofs.lemmas.Bool.{false≢true}
+use Rattle.walk_items.specs.declared.mode.Mode.{Mode, TheVariants.{Bounded, Reduced, BoundedOnce, ReducedOnce}}
+use Rattle.walk.specs.declared.path.Node.{Node}
 use Rattle.walk.proofs.PathSteps.{left_extended, preempts_is}
 use Rattle.walk.proofs.RunSteps.{run_reaches, run_enabled, run_on, run_front, path_extended}
 use Rattle.walk.proofs.path.Path.extend.Goals as goal
@@ -42,11 +45,7 @@ among_are c off k some few =
     let w = c.args.self.now.steps.items in
     run_enabled p w c.args.thread k c.run-run.result.among
     (c.run-run.ensures.among (state_at p w) c.requires.path.shows c.requires.enabled
-    (none c.is_at_bound-further.result c.args.heedless off) k some few)
-  where
-    none : (a b : Bool) → b ≡ false → (a && b) ≡ false
-    none true b h = h
-    none false b h = refl
+    (ap (λ b. b && c.is_at_bound.result) off) k some few)
 
 goes_on : (c : goal.After-push_run) → (k : ℕ) → 1 ≤ k → k < c.run-run.result.steps
     → is_enabled c.args.program.now
@@ -87,11 +86,31 @@ returns-clause-extended c =
           c.step.ensures.last (goes_on c) k some (omega (arith, few));
       enabled = goes_on c;
       among = among_are c;
-      bound = λ more. is_so (at_bound c.args.mode c.step.new.self) c.is_at_bound-further.result
-          c.is_at_bound-further.ensures (λ off. (let one = c.run-run.ensures.one off in
-          absurd (omega (arith, one, more))));
+      bound = λ more. is_so (at_bound c.args.mode c.step.new.self)
+          (runs_on c.args.mode c.step.new.self) c.args.heedless c.is_at_bound.result
+          c.runs_on.result c.is_at_bound.ensures c.runs_on.ensures
+          (on_at_bound c.args.mode c.step.new.self) (further more);
+      alike = λ off more. goes (runs_on c.args.mode c.step.new.self) c.args.heedless
+          c.is_at_bound.result c.runs_on.result c.runs_on.ensures off (further more);
     }
   where
-    is_so : (a r : Bool) → r ≡ a → (r ≡ false → ⊥) → a ≡ true
-    is_so true r e h = refl
-    is_so false r e h = absurd (h e)
+    further : 1 < c.run-run.result.steps
+        → ((c.args.heedless && c.is_at_bound.result) || c.runs_on.result) ≡ false → ⊥
+    further more off = let one = c.run-run.ensures.one off in omega (arith, one, more)
+
+    on_at_bound : (m : Mode) (n : Node) → runs_on m n ≡ true → at_bound m n ≡ true
+    on_at_bound (Bounded bound) n h = h
+    on_at_bound Reduced n h = h
+    on_at_bound (BoundedOnce bound) n h = absurd (false≢true h)
+    on_at_bound ReducedOnce n h = h
+
+    is_so : (a o h b r : Bool) → b ≡ a → r ≡ o → (o ≡ true → a ≡ true)
+        → (((h && b) || r) ≡ false → ⊥) → a ≡ true
+    is_so true o h b r e k f stops = refl
+    is_so false true h b r e k f stops = f refl
+    is_so false false true b r e k f stops = absurd (stops (λ j. e j || k j))
+    is_so false false false b r e k f stops = absurd (stops k)
+
+    goes : (o h b r : Bool) → r ≡ o → h ≡ false → (((h && b) || r) ≡ false → ⊥) → o ≡ true
+    goes true h b r k off stops = refl
+    goes false h b r k off stops = absurd (stops (λ j. (off j && b) || k j))

@@ -3,15 +3,19 @@ use Rattle.std.proofs.Common.{take, map, refl, ap, sym, subst, arith, rules}
 use Rattle.guest_code.specs.Program.{Program}
 use Rattle.semantics.specs.{Machine.is_enabled, Mask.members_from}
 use Rattle.semantics.proofs.WorkFalls.{enabled_below}
-use Rattle.walk_items.specs.Children.{mask_after, cost_of}
-use Rattle.walk.specs.{declared.path.Path.Path, inner.Paths.{state_at, IsPath}}
-use Rattle.walk.specs.inner.WalkerInvariant.{left_above, here, item_of, IsExtended, IsAlong}
+use Rattle.std.proofs.Common.{Bool, ◌&&◌, ◌||◌, not}
+use Rattle.std.proofs.lemmas.Bool.{false≢true}
+use Rattle.walk_items.specs.{Children.{is_hidden_after, mask_after, cost_of}, Items.ItemView}
+use Rattle.walk_items.specs.declared.mode.Mode.{Mode, TheVariants.{Bounded, Reduced, BoundedOnce, ReducedOnce}}
+use Rattle.semantics.specs.Mask.{has}
+use Rattle.walk.specs.{declared.path.{Node.Node, Path.Path}, inner.Paths.{state_at, IsPath}}
+use Rattle.walk.specs.inner.WalkerInvariant.{left_above, here, item_of, runs_on, IsExtended, IsAlong}
 use Rattle.walk.specs.inner.WalkerInvariant.{IsShared, HasPut}
-use Rattle.walk.proofs.{Expansions.search_enabled, LoneSteps.{or_left, left_so}}
+use Rattle.walk.proofs.{Expansions.search_enabled, LoneSteps.{or_left, left_so}, WalkTurns.and_true}
 use Rattle.walk.proofs.RunWalks.{along_begun, along_next, along_falls, same_path, run_further}
 use Rattle.walk.proofs.RunWalks.{more_at, node_at, on_at, among_at, of_at, bound_at, alone_at}
 use Rattle.walk.proofs.RunWalks.{noted_all, run_searched, run_falls}
-use Rattle.walk.proofs.path.Path.take_run.Goals.{After-is_at_bound}
+use Rattle.walk.proofs.path.Path.take_run.Goals.{After-runs_on}
 use Rattle.walk.proofs.path.Path.take_run.Goals as goal
 
 pub sleepers-asleep-requires-clause-enabled : goal.sleepers-asleep-requires-clause-enabled
@@ -55,32 +59,50 @@ loop-place-init c =
       tried = refl;
     }
 
+-- where a run goes on step by step, nobody is hidden
+all_seen : (m : Mode) (c : ItemView) (n : Node) (b : Bool) (v : ℕ) → runs_on m n ≡ true
+    → b ≡ (b && not (is_hidden_after m c v))
+all_seen (Bounded bound) c n b v h = sym (and_true b)
+all_seen Reduced c n b v h = absurd (false≢true h)
+all_seen (BoundedOnce bound) c n b v h = absurd (false≢true h)
+all_seen ReducedOnce c n b v h = absurd (false≢true h)
+
+runs : (noted on : Bool) → (noted || not on) ≡ false → on ≡ true
+runs true on h = absurd (false≢true (sym h))
+runs false true h = refl
+runs false false h = absurd (false≢true (sym h))
+
+is_noted : (noted on : Bool) → (noted || not on) ≡ true → (noted ≡ false → on ≡ true)
+    → noted ≡ true
+is_noted true on h f = refl
+is_noted false on h f = left_so false on h (f refl)
+
 -- what is known after the run
 
-path_is : (c : After-is_at_bound) → IsPath c.args.item.now.program c.extend.new.self
+path_is : (c : After-runs_on) → IsPath c.args.item.now.program c.extend.new.self
 path_is c = subst (λ (q : Program). IsPath q c.extend.new.self) c.program-program.ensures
     c.extend.ensures.path
 
-extended_is : (c : After-is_at_bound) → IsExtended c.args.item.now.program c.args.mode
+extended_is : (c : After-runs_on) → IsExtended c.args.item.now.program c.args.mode
     c.args.self.now c.extend.new.self c.args.thread c.sleepers-asleep.result
     c.has_noted_all-heedless.result c.in_ok-run.run'
 extended_is c = subst (λ (q : Program). IsExtended q c.args.mode c.args.self.now c.extend.new.self
     c.args.thread c.sleepers-asleep.result c.has_noted_all-heedless.result c.in_ok-run.run')
     c.program-program.ensures c.in_ok-run.ensures.extended
 
-mask_is : (c : After-is_at_bound) → c.sleepers-asleep.result
+mask_is : (c : After-runs_on) → c.sleepers-asleep.result
     ≡ mask_after c.args.mode (here c.args.item.now.program c.args.self.now) c.args.thread
 mask_is c = c.sleepers-asleep.ensures ∙ ap (λ (q : Program). mask_after c.args.mode
     (here q c.args.self.now) c.args.thread) c.program-program.ensures
 
-first_is : (c : After-is_at_bound) → length c.args.self.now.steps.items ≡ c.len-from.result
+first_is : (c : After-runs_on) → length c.args.self.now.steps.items ≡ c.len-from.result
 first_is c = omega (arith, c.len-from.ensures, c.args.self.now.steps.ok.0)
 
 -- where the loop goes on
 
 pub defer-requires-clause-shared : goal.defer-requires-clause-shared
 defer-requires-clause-shared c =
-    let d = (goal.at.defer-requires-clause-shared c).After-is_at_bound in
+    let d = (goal.at.defer-requires-clause-shared c).After-runs_on in
     let begun = along_begun c.args.mode c.args.item.now c.args.self.now c.extend.new.self
     c.args.found.now c.args.thread c.sleepers-asleep.result c.in_ok-run.run' c.requires.search.1
     (extended_is d) (mask_is d) in
@@ -92,14 +114,14 @@ defer-requires-clause-shared c =
 
 pub returns-in_err-defer-clause-path : goal.returns-in_err-defer-clause-path
 returns-in_err-defer-clause-path c =
-    let d = (goal.at.returns-in_err-defer-clause-path c).After-is_at_bound in
+    let d = (goal.at.returns-in_err-defer-clause-path c).After-runs_on in
     same_path c.args.item.now.program c.extend.new.self c.loop-place.self c.defer.new.steps
     c.loop-place.invariant.same (c.defer.ensures.steps ∙ c.loop-place.invariant.steps)
     (path_is d)
 
 pub loop-place-preserved : goal.loop-place-preserved
 loop-place-preserved c =
-    let d = (goal.at.loop-place-preserved c).After-is_at_bound in
+    let d = (goal.at.loop-place-preserved c).After-runs_on in
     let i = c.args.item.now in
     let old = c.args.self.now in
     let new = c.extend.new.self in
@@ -128,7 +150,7 @@ loop-place-preserved c =
           c.loop-place.invariant.same;
       steps = c.defer.ensures.steps ∙ c.loop-place.invariant.steps;
       within = omega (arith, inside);
-      along = λ b h. along_next m i (here i.program old) new f g run.among past u place
+      along = λ b h. along_next m i (here i.program old) new f g run.among past past u place
           (c.loop-place.invariant.along b h) more
           (node_at i.program m old new u c.sleepers-asleep.result run place path extended from inside
           run.among among)
@@ -136,7 +158,10 @@ loop-place-preserved c =
           extended.last (extended.asleep ∙ mask_is d)
           (alone_at i.program m old new u c.sleepers-asleep.result run place path extended from
           inside run.among among) c.with-others.ensures.same
-          c.with-others.ensures.others c.in_ok-defer.ensures.part c.defer.ensures.rest
+          c.with-others.ensures.others
+          (λ v. all_seen m (item_of i.program (take place new.steps.items) new.node) new.node
+          (has past v) v (sym c.runs_on.ensures ∙ runs _ _ c.if-settled.false))
+          c.in_ok-defer.ensures.part c.defer.ensures.rest
           (subst (λ (w : List ℕ). HasPut f (map (λ v. take place w ++ v ∷ [])
           (members_from past 0)) g)
           c.loop-place.invariant.steps c.in_ok-defer.ensures.put)
@@ -148,7 +173,7 @@ loop-place-preserved c =
 
 pub returns-clause-path : goal.returns-clause-path
 returns-clause-path c =
-    let d = (goal.at.returns-clause-path c).After-is_at_bound in
+    let d = (goal.at.returns-clause-path c).After-runs_on in
     same_path c.args.item.now.program c.extend.new.self c.loop-place.self c.loop-place.self.steps
     c.loop-place.invariant.same c.loop-place.invariant.steps
     (path_is d)
@@ -168,14 +193,14 @@ returns-clause-further c =
 
 -- where nothing is to be put off from within the run
 
-further_is : (c : After-is_at_bound) → length c.extend.new.self.steps.items
+further_is : (c : After-runs_on) → length c.extend.new.self.steps.items
     ≡ length c.args.self.now.steps.items + c.in_ok-run.run'.steps
 further_is c = run_further c.args.item.now.program c.args.mode c.args.self.now c.extend.new.self
     c.args.thread c.sleepers-asleep.result c.in_ok-run.run' (extended_is c)
 
 pub returns-then-settled-clause-search : goal.returns-then-settled-clause-search
 returns-then-settled-clause-search c = λ b h.
-    let d = (goal.at.returns-then-settled-clause-search c).After-is_at_bound in
+    let d = (goal.at.returns-then-settled-clause-search c).After-runs_on in
     let i = c.args.item.now in
     let m = c.args.mode in
     let old = c.args.self.now in
@@ -187,17 +212,16 @@ returns-then-settled-clause-search c = λ b h.
     let some = c.in_ok-run.ensures.extended.some in
     run_searched m i old new u c.sleepers-asleep.result run (path_is d) (extended_is d) (mask_is d)
     new refl refl (length old.steps.items + 1) (omega arith) (omega (arith, further, some)) f f h
-    (λ along. along) (λ k from inside. noted_all i.program (take k new.steps.items) u f
+    (λ along. along) (λ k from inside. noted_all m new.node i.program (take k new.steps.items) u f
     (of_at i.program m old new u c.sleepers-asleep.result run k (path_is d) (extended_is d) from
     inside)
     (sym c.has_noted_all-heedless.ensures
-    ∙ left_so _ _ c.if-settled.true (c.is_at_bound.ensures
-    ∙ bound_at i.program m old new u c.sleepers-asleep.result run k (path_is d) (extended_is d) from
-    inside)))
+    ∙ is_noted _ _ c.if-settled.true (λ off. c.runs_on.ensures
+    ∙ (extended_is d).alike off (omega (arith, from, inside, further)))))
 
 pub returns-then-settled-clause-falls : goal.returns-then-settled-clause-falls
 returns-then-settled-clause-falls c =
-    let d = (goal.at.returns-then-settled-clause-falls c).After-is_at_bound in
+    let d = (goal.at.returns-then-settled-clause-falls c).After-runs_on in
     let old = c.args.self.now in
     let new = c.extend.new.self in
     let further = further_is d in
@@ -212,7 +236,7 @@ returns-then-settled-clause-last c = c.in_ok-run.ensures.extended.last
 
 pub returns-then-settled-clause-further : goal.returns-then-settled-clause-further
 returns-then-settled-clause-further c =
-    let d = (goal.at.returns-then-settled-clause-further c).After-is_at_bound in
+    let d = (goal.at.returns-then-settled-clause-further c).After-runs_on in
     let further = further_is d in
     let some = c.in_ok-run.ensures.extended.some in
     omega (arith, further, some)
@@ -221,7 +245,7 @@ returns-then-settled-clause-further c =
 
 pub returns-clause-search : goal.returns-clause-search
 returns-clause-search c = λ b h.
-    let d = (goal.at.returns-clause-search c).After-is_at_bound in
+    let d = (goal.at.returns-clause-search c).After-runs_on in
     let i = c.args.item.now in
     let old = c.args.self.now in
     let new = c.extend.new.self in
@@ -243,7 +267,7 @@ returns-clause-search c = λ b h.
 
 pub returns-clause-falls : goal.returns-clause-falls
 returns-clause-falls c =
-    let d = (goal.at.returns-clause-falls c).After-is_at_bound in
+    let d = (goal.at.returns-clause-falls c).After-runs_on in
     let new = c.extend.new.self in
     let first = first_is d in
     run_falls c.args.mode c.args.item.now c.args.self.now new c.args.thread

@@ -33,8 +33,8 @@ expand-requires-clause-search c = (
       c.ends-ends.ensures.kept c.set_shared.ensures.same c.set_shared.ensures.shared),
 )
 
-pub search-requires-clause-search : goal.search-requires-clause-search
-search-requires-clause-search c = (
+pub search_by_mode-requires-clause-search : goal.search_by_mode-requires-clause-search
+search_by_mode-requires-clause-search c = (
   c.args.found.now,
   c.in_ok-expand.ensures.search c.args.found.now (c.in_ok-run_last_thread_if_alone.ensures.search
       c.args.found.now
@@ -46,7 +46,7 @@ search-requires-clause-search c = (
 
 pub drain-requires-clause-place : goal.drain-requires-clause-place
 drain-requires-clause-place c =
-    (c.in_ok-search.ensures.search c.args.found.now
+    (c.in_ok-search_by_mode.ensures.search c.args.found.now
     (c.in_ok-expand.ensures.search c.args.found.now (c.in_ok-run_last_thread_if_alone.ensures.search
     c.args.found.now
     (search_begun c.args.mode c.args.item.now c.seek.new.self c.args.found.now
@@ -56,8 +56,8 @@ drain-requires-clause-place c =
 
 pub drain-requires-clause-items : goal.drain-requires-clause-items
 drain-requires-clause-items c =
-    items_run c.args.mode c.args.item.now c.search.new.found _
-    (c.in_ok-search.ensures.search c.args.found.now
+    items_run c.args.mode c.args.item.now c.search_by_mode.new.found _
+    (c.in_ok-search_by_mode.ensures.search c.args.found.now
     (c.in_ok-expand.ensures.search c.args.found.now (c.in_ok-run_last_thread_if_alone.ensures.search
     c.args.found.now
     (search_begun c.args.mode c.args.item.now c.seek.new.self c.args.found.now
@@ -70,19 +70,19 @@ returns-clause-added c =
     let i = c.args.item.now in
     let f = c.args.found.now in
     let t = c.seek.new.self in
-    let g = c.search.new.found in
+    let g = c.search_by_mode.new.found in
     let past = sym c.is_past_bound.ensures ∙ c.if-is_past_bound.false in
     let begun = search_begun c.args.mode i t f c.set_shared.new.self
     c.in_ok-seek.ensures.place c.in_ok-seek.ensures.item c.in_ok-seek.ensures.base
     past c.ends-ends.ensures.kept c.set_shared.ensures.same c.set_shared.ensures.shared in
-    let few = c.in_ok-search.ensures.few in
+    let few = c.in_ok-search_by_mode.ensures.few in
     let tried = c.tried.ensures in
     let quota = c.from.ensures in
     on_ok_weaker c.drain.result
-    (search_added c.args.mode i t.node t.steps.items c.search.new.self f g _ c.args.quota
+    (search_added c.args.mode i t.node t.steps.items c.search_by_mode.new.self f g _ c.args.quota
     c.seek.ensures.path.reaches c.in_ok-seek.ensures.item past
-    (c.in_ok-search.ensures.search f (c.in_ok-expand.ensures.search f
+    (c.in_ok-search_by_mode.ensures.search f (c.in_ok-expand.ensures.search f
     (c.in_ok-run_last_thread_if_alone.ensures.search f begun)))
     c.requires.room (omega (arith, few, tried, quota))
-    (λ l. c.in_ok-search.ensures.all (omega (arith, l, tried, quota))) refl)
+    (λ l. c.in_ok-search_by_mode.ensures.all (omega (arith, l, tried, quota))) refl)
     c.drain.ensures.rest

@@ -1,8 +1,7 @@
 use Rattle.std.proofs.Common.{◌∙◌, sym}
-use Rattle.std.specs.{Cmp.signed_Decides, Cmp.Lexicographic.pointwise_decides}
 use Rattle.std.proofs.lemmas.Bool.{false≢true}
 use Rattle.semantics_machine.proofs.EqualThreads.{one_answer, two_answers, alike, there, same_woken, same_locals, first_owns_none, second_owns_none}
-use Rattle.semantics_machine.proofs.machine.Machine.are_alike.Goals as goal
+use Rattle.semantics_machine.proofs.machine.Machine.are_alike_here.Goals as goal
 
 pub returns-then-has : goal.returns-then-has
 returns-then-has c = λ s shows a b. (
@@ -35,16 +34,15 @@ returns c = λ s shows a b.
     let t = c.args.first in
     let u = c.args.second in
     let mine = c.locals.ensures s shows (there p s t a) in
-    let other = c.locals-2.ensures s shows (there p s u b) in
-    let same = pointwise_decides signed_Decides c.locals.result.now c.locals-2.result.now in (
-      λ e. alike p m s t u shows a b c.requires.two c.if-self-first.false
+    let other = c.locals-2.ensures s shows (there p s u b) in (
+      λ e. alike p m s t u shows a b c.requires.two c.requires.here
           (sym c.has.ensures ∙ (one_answer _ _ c.if-has.false ∙ c.has-2.ensures))
           (λ k h. absurd (false≢true (sym c.if-owns_some.false
           ∙ (c.owns_some.ensures p s shows).1 (k, h))))
           (λ k h. absurd (false≢true (sym c.if-owns_some-2.false
           ∙ (c.owns_some-2.ensures p s shows).1 (k, h))))
           (there p s t a) (there p s u b)
-          (sym mine ∙ (same.0 (sym c.eq.ensures ∙ e) ∙ other)),
-      λ r. c.eq.ensures
-          ∙ same.1 (mine ∙ (same_locals p m s t u shows a b c.requires.two r ∙ sym other)),
+          (sym mine ∙ (c.same_values.ensures.0 e ∙ other)),
+      λ r. c.same_values.ensures.1
+          (mine ∙ (same_locals p m s t u shows a b c.requires.two r ∙ sym other)),
     )
