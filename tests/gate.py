@@ -1,13 +1,14 @@
 #!/usr/bin/env python3
-"""The gate: runs its parts one after the other, and says where it is.
+"""The gate: runs its parts, and says where it is.
 
 Usage: tests/gate.py
 
 Each line of a part is passed on as it comes, behind the minute of the gate at which it came, but for
 a part's closing line `N passed, M failed`, which stays alone, and for lines that say of one function
-or type that it is proved, which are left out. What needs no proof begins beside the proofs; its lines come
-in its turn. Before the last closing line there is a line on when each crate was proved, one on the
-processor time, and one on the whole. The first part that fails ends the gate, with its status.
+or type that it is proved, which are left out. What needs no proof begins beside the proofs, and what is
+tried of the built program goes on at once, a part for each processor; the lines of a part come in its turn.
+Before the last closing line there is a line on when each crate was proved, one on the processor time, and
+one on the whole. The first part that fails ends the gate, with its status.
 """
 import atexit
 import os
@@ -41,6 +42,7 @@ TRIED = {
     "equal threads once": [sys.executable, "tests/symmetry.py", PROGRAM],
     "what workers do": [sys.executable, "tests/rounds.py", PROGRAM, TOOLS],
     "what stands around the program": [sys.executable, "tests/around.py", PROGRAM],
+    "refused memory": [sys.executable, "tests/allocations.py", PROGRAM, TOOLS],
 }
 PROVED = re.compile(r"rt: (\w+) proved$")
 # What the gate counts in the lines that it passes on.
@@ -103,6 +105,18 @@ class Gate:
         self.passed[name] = int(CLOSING.match(closing)[1]) if closing else 0
         return closing
 
+    def parts(self, named):
+        """Runs parts, as many at once as there are processors, and answers the closing line of the last."""
+        waiting, begun = list(named.items()), []
+        while waiting or begun:
+            while waiting and len(begun) < len(os.sched_getaffinity(0)):
+                name, words = waiting.pop(0)
+                begun.append((name, begin(words)))
+            closing = self.follow(*begun.pop(0))
+            if closing and (waiting or begun):
+                print(closing, flush=True)
+        return closing
+
     def times(self):
         """When each crate was proved, and the processor time of all parts."""
         used = resource.getrusage(resource.RUSAGE_CHILDREN)
@@ -115,7 +129,7 @@ class Gate:
         return ("proved: %d crates%s; refused: %d wrong bodies; passed: %d tests, %d commands that are shown, "
                 "%d other comparisons, and %d runs with each request for memory refused in turn; %d minutes"
                 % (self.counts["proved"] + kept, earlier, self.counts["refused"], self.counts["tests"],
-                   self.passed["shown commands"], sum(self.passed[name] for name in TRIED),
+                   self.passed["shown commands"], sum(self.passed[name] for name in TRIED) - self.passed["refused memory"],
                    self.passed["refused memory"], self.minute()))
 
 
@@ -132,12 +146,8 @@ def main():
     shutil.copyfile(ROOT / "crates/ctxbound/out/ctxbound", ROOT / PROGRAM)
     (ROOT / PROGRAM).chmod(0o755)
     print(gate.part("shown commands", [sys.executable, "tests/docs.py", PROGRAM]), flush=True)
-    print(gate.follow("shown commands, nothing proved", unproved), flush=True)
-    for name, words in TRIED.items():
-        closing = gate.part(name, words)
-        if closing:
-            print(closing, flush=True)
-    closing = gate.part("refused memory", [sys.executable, "tests/allocations.py", PROGRAM, TOOLS])
+    print(gate.parts(TRIED), flush=True)
+    closing = gate.follow("shown commands, nothing proved", unproved)
     for line in gate.times():
         gate.say(line)
     gate.say(gate.whole())

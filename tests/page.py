@@ -25,6 +25,7 @@ import re
 import shutil
 
 from program import ROOT, Tester, guests, run
+from simulator import Guest, has_equal_threads
 
 BROWSERS = ("chromium", "chromium-browser", "google-chrome")
 
@@ -150,8 +151,9 @@ def ends_of(report, path, trace):
         row = [end["kind"], *map(str, end["vars"])]
         rows.append(row + ["this schedule"] * (row == own))
     within = "" if report["bound"] is None else " with at most " + few(report["bound"], "preemption")
-    return rows, "%s%s tried: %d failed, %d stuck." % (few(report["tried"], "schedule"), within,
-                                                       report["failed"], report["stuck"])
+    once = ", equal threads once" if "symmetry" in report else ""
+    return rows, "%s%s tried%s: %d failed, %d stuck." % (few(report["tried"], "schedule"), within, once,
+                                                         report["failed"], report["stuck"])
 
 
 few = lambda count, thing: "%d %s%s" % (count, thing, "" if count == 1 else "s")
@@ -252,7 +254,8 @@ def seen(browser, page, tester):
 def faults(tester, browser, path, search):
     """What is wrong with the page of a guest, which a search of this kind explains where one is bad."""
     command = {"explore": [], "unbounded": ["--unbounded"]}[search]
-    report = json.loads(tester.run(search, path).out)
+    once = ["--symmetry"] if has_equal_threads(Guest(path.read_text())) else []
+    report = json.loads(tester.run(search, path, *once).out)
     schedule = report.get("schedule")
     words = command if schedule else ["-"]
     page, text = (tester.run("explain", path, *words, *form).out for form in (["--html"], ["--width", "1000"]))
