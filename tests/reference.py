@@ -487,8 +487,10 @@ def updates(times, factor):
             ("store", 0, "r")] * times
 
 
-# Programs with more schedules than a round tries, reports of many ends, or more open items than a round has.
-LARGE = [
+# Programs with more schedules than a round tries, reports of many ends, or more open items than a round has; and one with
+# a local that is set before its thread's first step.
+FIXED = [
+    Guest([("v0", 0)], [], [], [], [[("load", "q", 0), ("store", 0, 1)], [("set", "r", (5,)), ("store", 0, "r")]]),
     Guest([("v0", 1)], [], [], [], [updates(2, 1009), updates(2, 10007), updates(2, 100003)]),
     Guest([("v%d" % k, 0) for k in range(4)], [], [], [],
           [[("store", k, one) for one in range(2)] for k in range(4)]),
@@ -562,12 +564,12 @@ class Comparer(Tester):
     def test(self):
         until = time.monotonic() + 60 * self.given.minutes
         compared, seed = 0, 1000003 * self.given.seed
-        for guest in LARGE:
+        for guest in FIXED:
             self.guest(guest, seed, MOST_OF_LARGE)
         while time.monotonic() < until if self.given.minutes else compared < self.given.programs:
             compared += self.guest(Maker(seed), seed)
             seed += 1
-        print("%d programs, and %d large ones" % (compared, len(LARGE)))
+        print("%d programs, and %d that aren't made at random" % (compared, len(FIXED)))
 
 
 if __name__ == "__main__":
