@@ -190,6 +190,16 @@ pub fn put_truncated(row: &mut String, word: &str, columns: usize) -> Written {
     row.push_str("..")
 }
 
+/// A word quoted for a shell: in single quotes, where a single quote in it is `'\''`, if it is empty
+/// or has anything but letters, digits and signs that a shell takes as they are.
+pub fn shell_quoted(alloc: Global, word: &str) -> Result<String, AllocError> {
+    let is_plain = |byte: &u8| byte.is_ascii_alphanumeric() || b"_./+-@%:,".contains(byte);
+    if !word.is_empty() && word.as_bytes().iter().all(is_plain) {
+        return word.to_string(alloc);
+    }
+    format!(in alloc; "'{}'", word.replace(alloc, "'", "'\\''")?)
+}
+
 /// A number and the singular of what is counted, printed as `1 step` or `2 steps`.
 #[derive(Clone, Copy)]
 pub struct Count<'a>(pub usize, pub &'a str);

@@ -77,7 +77,7 @@ impl TextWriter<'_> {
         }
     }
 
-    /// The columns of the widest cell that has a file's name, as `worker.inc:12`; 0 without any.
+    /// The columns of the widest cell of a line, as `worker.inc:12`; 0 without any.
     pub fn line_cell_width(&self) -> Result<usize, AllocError> {
         let steps = self.told.explanation.steps().iter();
         let threads = 0..self.told.source.program.threads();
@@ -85,10 +85,8 @@ impl TextWriter<'_> {
         let places = places.chain(threads.map(|t| (t, self.instruction_at_end(t))));
         let mut widest = 0;
         for (thread, instruction) in places {
-            let line = self.told.line(thread, instruction);
-            if line.is_named {
-                widest = width_of(line_cell(self.told.alloc, line)?.as_str()).max(widest);
-            }
+            let cell = line_cell(self.told.alloc, self.told.line(thread, instruction))?;
+            widest = width_of(cell.as_str()).max(widest);
         }
         Ok(widest)
     }

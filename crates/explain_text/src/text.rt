@@ -1,7 +1,7 @@
 //! The explanation of a schedule as text, and the names and places that its parts tell.
 
 use explain_cause::{Event, InTurns};
-use explain_lines::{Columns, FileLine, InLine, Page, Written};
+use explain_lines::{Columns, FileLine, InLine, Page, Written, shell_quoted};
 use explain_run::{Object, Statement};
 use explain_told::Told;
 use guest_code::program::Instruction;
@@ -81,15 +81,6 @@ pub fn push_entry<D: fmt::Display + Drop>(list: &mut String, entry: D) -> Writte
         list.push_str(", ")?;
     }
     list.write(entry)
-}
-
-// A word as a shell takes it: in quotes where it is empty or has other bytes than plain ones.
-fn shell_quoted(alloc: Global, word: &str) -> Result<String, AllocError> {
-    let is_plain = |byte: &u8| byte.is_ascii_alphanumeric() || b"_-./+,@%".contains(byte);
-    if !word.is_empty() && word.as_bytes().iter().all(is_plain) {
-        return word.to_string(alloc);
-    }
-    format!(in alloc; "'{}'", word.replace(alloc, "'", "'\\''")?)
 }
 
 impl<'a> TextWriter<'a> {
