@@ -16,24 +16,9 @@ use std::process::ExitCode;
 use std::sync::Arc;
 use std::{fs, io};
 
-/// The program that a text spells; a call that fails is made once more. `None` if it fails twice.
+/// The program that a text spells; `None` where memory is refused.
 fn program_of(alloc: Global, text: &[u8]) -> Option<Program> {
-    let tree = match parse(alloc, text) {
-        Ok(tree) => tree,
-        Err(_) => parse(alloc, text).ok()?,
-    };
-    match lower(alloc, &tree) {
-        Ok(program) => Some(program),
-        Err(_) => lower(alloc, &tree).ok(),
-    }
-}
-
-/// The schedule that a text spells; a call that fails is made once more. `None` if it fails twice.
-fn schedule_of(alloc: Global, text: &[u8]) -> Option<Vec<u8>> {
-    match schedule_from(alloc, text) {
-        Ok(schedule) => Some(schedule),
-        Err(_) => schedule_from(alloc, text).ok(),
-    }
+    lower(alloc, &parse(alloc, text).ok()?).ok()
 }
 
 /// Prints what the calls on a run and on a book answered, in three lines of words and numbers.
@@ -67,8 +52,8 @@ fn facts_of(
     program: &Arc<Program>,
     schedule: &str,
 ) -> Option<(RunFacts, BookFacts)> {
-    let schedule = schedule_of(alloc, schedule.as_bytes())?;
-    let run = run_facts(alloc, program, schedule.as_slice())?;
+    let schedule = again!(schedule_from(alloc, schedule.as_bytes()).ok())?;
+    let run = again!(run_facts(alloc, program, schedule.as_slice()))?;
     let book = book_facts(alloc, program, schedule.as_slice())?;
     Some((run, book))
 }
@@ -79,7 +64,7 @@ fn facts_of(
 pub fn run<H: Files + Print + Alloc<A = Global>>(rt: &H, words: &[String]) -> Option<ExitCode> {
     let text = fs::read(rt, words.get(1)?.as_str()).ok()?;
     let schedule = words.get(2)?.as_str();
-    let Some(program) = program_of(rt.alloc(), text.as_slice()) else {
+    let Some(program) = again!(program_of(rt.alloc(), text.as_slice())) else {
         return Some(ExitCode::FAILURE);
     };
     let program = Arc::new(rt.alloc(), program).ok()?;

@@ -69,14 +69,6 @@ impl BookSnapshot {
     }
 }
 
-// A book's next round, asked for once more if memory is refused; `None` if it is refused again.
-fn next_round(alloc: Global, book: &Book) -> Option<Vec<Item>> {
-    match book.round(alloc) {
-        Ok(items) => Some(items),
-        Err(_) => book.round(alloc).ok(),
-    }
-}
-
 // How many steps the prefixes of these items have together.
 fn count_steps(items: &[Item]) -> usize {
     let mut sum = 0usize;
@@ -106,18 +98,12 @@ fn deferred_items(alloc: Global, book: &Book) -> Result<Vec<Item>, AllocError> {
 
 // A snapshot of a book, made once more if memory is refused; `None` if it is refused again.
 fn snapshot_of(alloc: Global, book: &Book, program: &Program) -> Option<BookSnapshot> {
-    match BookSnapshot::of(alloc, book, program) {
-        Ok(seen) => Some(seen),
-        Err(_) => BookSnapshot::of(alloc, book, program).ok(),
-    }
+    again!(BookSnapshot::of(alloc, book, program).ok())
 }
 
 // A walk of an item that tries one schedule, made once more if it fails; `None` if it fails again.
 fn walk_one(alloc: Global, item: &Item, mode: Mode) -> Option<Walked> {
-    match walk(alloc, item, mode, 1) {
-        Ok(walked) => Some(walked),
-        Err(_) => walk(alloc, item, mode, 1).ok(),
-    }
+    again!(walk(alloc, item, mode, 1).ok())
 }
 
 // Walks an item and settles the walk, once more where memory to settle it is refused and the book
@@ -137,57 +123,42 @@ fn walk_and_settle(alloc: Global, book: &mut Book, program: &Program, item: &Ite
 }
 
 // Joins a summary with itself and copies the result: how many schedules the copy counts, and how
-// many end views it has. `None` where a call fails twice.
+// many end views it has. `None` where memory is refused.
 fn doubled_counts(alloc: Global, summary: &Summary) -> Option<(u64, usize)> {
-    let twice = match summary.join(alloc, summary) {
-        Ok(twice) => twice,
-        Err(_) => summary.join(alloc, summary).ok()?,
-    };
-    let copy = match twice.try_clone(alloc) {
-        Ok(copy) => copy,
-        Err(_) => twice.try_clone(alloc).ok()?,
-    };
+    let twice = summary.join(alloc, summary).ok()?;
+    let copy = twice.try_clone(alloc).ok()?;
     Some((copy.tried(), copy.ends().len()))
 }
 
-// A copy of the item of this prefix. Where memory is refused, it is made, or copied, once more;
-// `None` where that fails, too, or the program can't be shared once more.
+// A copy of the item of this prefix; `None` where memory is refused.
 fn item_after(alloc: Global, program: &Arc<Program>, steps: &[u8]) -> Option<Item> {
-    let item = match Item::at(alloc, Arc::try_clone(program).ok()?, steps) {
-        Ok(item) => item,
-        Err(_) => Item::at(alloc, Arc::try_clone(program).ok()?, steps).ok()?,
-    };
-    match item.try_clone(alloc) {
-        Ok(copy) => Some(copy),
-        Err(_) => item.try_clone(alloc).ok(),
-    }
+    let item = Item::at(alloc, Arc::try_clone(program).ok()?, steps).ok()?;
+    item.try_clone(alloc).ok()
 }
 
-// How many seats a new board of 5 numbers and 3 seats has; `None` where memory is refused twice.
+// How many seats a new board of 5 numbers and 3 seats has; `None` where memory is refused.
 fn count_seats(alloc: Global) -> Option<usize> {
-    let (_board, seats) = match Board::new(alloc, 5, 3) {
-        Ok(made) => made,
-        Err(_) => Board::new(alloc, 5, 3).ok()?,
-    };
+    let (_board, seats) = Board::new(alloc, 5, 3).ok()?;
     Some(seats.len())
 }
 
-// A new book of a program, at bound 0. Where memory is refused, a second one is tried; `None` where
-// that fails, too, or the program can't be shared once more.
+// A new book of a program, at bound 0; `None` where memory is refused.
 fn open_book(alloc: Global, program: &Arc<Program>) -> Option<Book> {
-    match Book::open(alloc, Arc::try_clone(program).ok()?, Mode::Bounded(0)) {
-        Ok(book) => Some(book),
-        Err(_) => Book::open(alloc, Arc::try_clone(program).ok()?, Mode::Bounded(0)).ok(),
-    }
+    Book::open(alloc, Arc::try_clone(program).ok()?, Mode::Bounded(0)).ok()
 }
 
 // Walks the root of a new book and then all items that are open, and settles the walks. Answers how
 // many there were after the root's, at most `MOST_WALKS`; `None` where a walk or settling it fails.
 fn walk_and_settle_bound(alloc: Global, book: &mut Book, program: &Arc<Program>) -> Option<u64> {
     let mut settled = 0u64;
-    walk_and_settle(alloc, book, program, &item_after(alloc, program, &[])?)?;
+    walk_and_settle(
+        alloc,
+        book,
+        program,
+        &again!(item_after(alloc, program, &[]))?,
+    )?;
     for _ in 0..MOST_WALKS {
-        let items = next_round(alloc, book)?;
+        let items = again!(book.round(alloc).ok())?;
         let Some(item) = items.as_slice().last() else {
             break;
         };
@@ -200,18 +171,18 @@ fn walk_and_settle_bound(alloc: Global, book: &mut Book, program: &Arc<Program>)
 /// What the calls of a search answer that tries all schedules without a preemption, one a walk, and
 /// then raises the bound; and those on a board and a schedule's item. `None` where one fails twice.
 pub fn book_facts(alloc: Global, program: &Arc<Program>, schedule: &[u8]) -> Option<BookFacts> {
-    let mut book = open_book(alloc, program)?;
+    let mut book = again!(open_book(alloc, program))?;
     let settled = walk_and_settle_bound(alloc, &mut book, program)?;
     let tried = book.finished().tried();
-    let (joined, ends) = doubled_counts(alloc, book.finished())?;
+    let (joined, ends) = again!(doubled_counts(alloc, book.finished()))?;
     book.raise().ok()?;
     Some(BookFacts {
         settled,
         tried,
         joined,
         ends,
-        copied: item_after(alloc, program, schedule)?.prefix().len(),
-        next: count_steps(next_round(alloc, &book)?.as_slice()),
-        seats: count_seats(alloc)?,
+        copied: again!(item_after(alloc, program, schedule))?.prefix().len(),
+        next: count_steps(again!(book.round(alloc).ok())?.as_slice()),
+        seats: again!(count_seats(alloc))?,
     })
 }

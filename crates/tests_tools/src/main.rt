@@ -3,6 +3,16 @@
 //! refused memory, `walk` counts schedules.
 #![tactic(auto)]
 
+// What a call answers, made once more where it answers nothing, since memory is refused.
+macro_rules! again {
+    ($call:expr) => {
+        match $call {
+            Some(made) => Some(made),
+            None => $call,
+        }
+    };
+}
+
 mod again;
 mod books;
 mod gate;

@@ -1,6 +1,6 @@
-//! Runs a schedule, with each call made once more where it is refused memory.
+//! Runs a schedule, and writes texts of it.
 
-ghost use Rattle.std.specs.Prelude.{◌≡◌, IfSome};
+ghost use Rattle.std.specs.Prelude.{IfSome};
 ghost use Rattle.semantics.specs.Reachable.{IsOf};
 
 use guest_code::program::Program;
@@ -19,31 +19,11 @@ pub struct RunFacts {
     pub traced: usize,
 }
 
-// The opening state of a program, made once more if memory is refused; `None` if it is again.
-fn opening_state(alloc: Global, program: &Program) -> Option<State>
-    ensures { IfSome result (λ s. IsOf program.now s) }
-{
-    match State::start(alloc, program) {
-        Ok(state) => Some(state),
-        Err(_) => State::start(alloc, program).ok(),
-    }
-}
-
-// A copy of a state, made once more if memory is refused; `None` if it is refused again.
-fn copy_of(alloc: Global, state: &State) -> Option<State>
-    ensures { IfSome result (λ s. s ≡ state.now) }
-{
-    match state.try_clone(alloc) {
-        Ok(copy) => Some(copy),
-        Err(_) => state.try_clone(alloc).ok(),
-    }
-}
-
-// The state after a schedule; `None` where it doesn't run, or memory is refused twice.
+// The state after a schedule; `None` where it doesn't run, or memory is refused.
 fn state_after(alloc: Global, program: &Program, schedule: &[u8]) -> Option<State>
     ensures { IfSome result (λ s. IsOf program.now s) }
 {
-    let mut state = opening_state(alloc, program)?;
+    let mut state = State::start(alloc, program).ok()?;
     for thread in schedule {
         if !state.enabled(program).has(*thread) {
             return None;
@@ -53,36 +33,25 @@ fn state_after(alloc: Global, program: &Program, schedule: &[u8]) -> Option<Stat
     Some(state)
 }
 
-// How many values the end view after a schedule has; `None` if it has none, or a call fails twice.
-fn end_view_len(alloc: Global, program: &Program, schedule: &[u8]) -> Option<usize> {
-    let state = state_after(alloc, program, schedule)?;
-    let view = match state.view(alloc, program) {
-        Ok(view) => view,
-        Err(_) => state.view(alloc, program).ok()?,
-    };
-    Some(view?.vars().len())
+// How many steps a replay of a schedule has, and how long its trace is; `None` where memory is refused.
+fn trace_lens(alloc: Global, program: &Program, schedule: &[u8]) -> Option<(usize, usize)> {
+    let run = replay(alloc, program, schedule).ok()?;
+    let traced = trace_text(alloc, program, &run).ok()?;
+    Some((run.lines().len(), traced.len()))
 }
 
-/// What the calls to run a complete schedule and to write texts of it answer, if none fails twice.
+/// What the calls to run a complete schedule and to write texts of it answer; `None` where memory is
+/// refused. None of them changes a value, so that they can be made again together.
 pub fn run_facts(alloc: Global, program: &Program, schedule: &[u8]) -> Option<RunFacts> {
-    let opening = copy_of(alloc, &opening_state(alloc, program)?)?;
-    let run = match replay(alloc, program, schedule) {
-        Ok(run) => run,
-        Err(_) => replay(alloc, program, schedule).ok()?,
-    };
-    let spelled = match schedule_text(alloc, schedule) {
-        Ok(text) => text,
-        Err(_) => schedule_text(alloc, schedule).ok()?,
-    };
-    let traced = match trace_text(alloc, program, &run) {
-        Ok(text) => text,
-        Err(_) => trace_text(alloc, program, &run).ok()?,
-    };
+    let state = state_after(alloc, program, schedule)?;
+    let copy = state.try_clone(alloc).ok()?;
+    let view = state.view(alloc, program).ok()??;
+    let (steps, traced) = trace_lens(alloc, program, schedule)?;
     Some(RunFacts {
-        variables: opening.variables().len(),
-        viewed: end_view_len(alloc, program, schedule)?,
-        steps: run.lines().len(),
-        spelled: spelled.len(),
-        traced: traced.len(),
+        variables: copy.variables().len(),
+        viewed: view.vars().len(),
+        steps,
+        spelled: schedule_text(alloc, schedule).ok()?.len(),
+        traced,
     })
 }
