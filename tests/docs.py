@@ -2,10 +2,11 @@
 """Runs every command that the documents, the examples and the worked rows show, and compares what it prints.
 
 Usage: tests/docs.py BINARY
-       tests/docs.py --unproved
+       tests/docs.py --unproved [--documents]
 
 With --unproved the program is built without proofs, by `rt try`: three times side by side, or as often as the variable
-BUILDS says, each for a part of the commands. It checks each access to memory as it runs and is slow, so each command is run once.
+BUILDS says, each for a part of the commands. It checks each access to memory as it runs and is slow, so each command is run once;
+with --documents, those that documents and examples show, and no worked row.
 
 In README.md and docs/*.md, fenced blocks are read by their first line:
 
@@ -208,9 +209,9 @@ class Asked:
 class Reader:
     """Reads the documents: the commands that they show, and what is wrong in them."""
 
-    def __init__(self, workers):
+    def __init__(self, workers, rows):
         self.workers, self.asked, self.faults = workers, [], []
-        self.shown = {}
+        self.worked, self.shown = [(self.rows, ROWS)] if rows else [], {}
 
     def take(self, path, shown, programs):
         """The words of a command, which is put to the others."""
@@ -265,7 +266,7 @@ class Reader:
     def read(self):
         documents = [ROOT / "README.md"] + sorted((ROOT / "docs").glob("*.md"))
         work = [(self.document, path) for path in documents if path.exists()]
-        work += [(self.example, path) for path in guests("examples")] + [(self.rows, ROWS)]
+        work += [(self.example, path) for path in guests("examples")] + self.worked
         for take_in, path in work:
             try:
                 take_in(path)
@@ -278,10 +279,11 @@ class Reader:
 
 
 def main():
-    if len(sys.argv) != 2 or sys.argv[1] != "--unproved" and not Path(sys.argv[1]).is_file():
-        raise SystemExit("usage: tests/docs.py BINARY, or tests/docs.py --unproved")
+    documents = sys.argv[1:] == ["--unproved", "--documents"]
+    if not documents and (len(sys.argv) != 2 or sys.argv[1] != "--unproved" and not Path(sys.argv[1]).is_file()):
+        raise SystemExit("usage: tests/docs.py BINARY, or tests/docs.py --unproved [--documents]")
     unproved = sys.argv[1] == "--unproved"
-    reader = Reader(workers=not unproved)
+    reader = Reader(workers=not unproved, rows=not documents)
     reader.read()
     if unproved:
         answers = run_unproved(reader.asked)
