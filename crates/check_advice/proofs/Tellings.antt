@@ -5,7 +5,7 @@ use Rattle.guest_syntax.specs.{Place.start, Tree.Tree, declared.error.SyntaxErro
 use Rattle.guest_code.specs.{ErrorTexts.check_error_text, Fault.{fault, Refuses}}
 use Rattle.guest_code.specs.declared.error.CheckError.{CheckError}
 use Rattle.guest_code.specs.declared.error.CheckError.TheVariants.{Duplicate, Unknown, WrongKind, NoThreads, TooMany, CodeTooLong, LeaveOutside, OutOfMemory}
-use Rattle.check_messages.specs.declared.message.Diagnostic.{Diagnostic}
+use Rattle.check_hints.specs.declared.diagnostic.Diagnostic.{Diagnostic}
 use Rattle.check_advice.specs.Told.{Tells, is_sound, spells_none, has_fault}
 use Rattle.check_advice.specs.declared.Checked.TheVariants.{Sound, Refused}
 use Rattle.check_hints.specs.Refusals.{syntax_place, check_place, IsDiagnosticOf}

@@ -6,8 +6,8 @@ use Rattle.guest_syntax.specs.{Answers.RefusalIn, ErrorTexts.syntax_error_text, 
 use Rattle.guest_syntax.specs.{Place.start, Tree.Tree, declared.error.SyntaxError.SyntaxError}
 use Rattle.guest_code.specs.{ErrorTexts.check_error_text, Fault.fault}
 use Rattle.guest_code.specs.declared.error.CheckError.{CheckError}
-use Rattle.check_messages.specs.declared.message.{Diagnostic.Diagnostic, Severity.Severity}
-use Rattle.check_messages.specs.declared.message.Severity.TheVariants as severities
+use Rattle.check_hints.specs.declared.diagnostic.{Diagnostic.Diagnostic, Severity.Severity}
+use Rattle.check_hints.specs.declared.diagnostic.Severity.TheVariants as severities
 use Rattle.check_hints.specs.Refusals.{syntax_place, check_place, IsDiagnosticOf}
 use Rattle.check_advice.specs.declared.Checked.{Checked, TheVariants.{Sound, Refused}}
 

@@ -1,6 +1,6 @@
 //! Warnings and remarks that a comment in their line allows, which are not told.
 
-use check_messages::message::{Diagnostic, line_of};
+use check_hints::diagnostic::{Diagnostic, line_of};
 use std::str::from_utf8;
 
 /// Whether a diagnostic's line ends in a comment that allows the diagnostic, as `# allow W5 W9`

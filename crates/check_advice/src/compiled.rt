@@ -3,9 +3,9 @@
 ghost use Rattle.std.specs.Prelude.{◌<◌};
 ghost use Rattle.guest_code.specs.SourceMap.{IsMapOf};
 
+use check_hints::diagnostic::{Diagnostic, Severity};
 use check_hints::message::Message;
 use check_hints::pieces::{START, span_at, text_of};
-use check_messages::message::{Diagnostic, Severity};
 use guest_code::program::{Instruction, Program};
 use guest_code::source_map::SourceMap;
 use guest_syntax::pieces::Piece;

@@ -1,12 +1,12 @@
 //! Diagnostics of what a program's schedules show, of which a limit says how many are explored.
 
 use crate::compiled::Compiled;
+use check_hints::diagnostic::{Diagnostic, Severity};
 use check_hints::message::Message;
 use check_hints::pieces::text_of;
 use check_lint::exploration::{Explored, explore};
 use check_lint::seen::InstructionSeen;
 use check_lint::spin::Spin;
-use check_messages::message::{Diagnostic, Severity};
 use guest_code::program::{Expression, Instruction, Value};
 use guest_syntax::place::Pos;
 use replay::schedule_text;

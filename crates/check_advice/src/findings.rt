@@ -1,12 +1,12 @@
 //! The warnings of `check_lint`, with their places, as diagnostics.
 
 use crate::compiled::Compiled;
+use check_hints::diagnostic::{Diagnostic, Severity};
 use check_hints::message::Message;
 use check_hints::pieces::{START, is_boundary, piece_index_at};
 use check_lint::uses::Use;
 use check_lint::warning::{Subject, Warning, WarningKind};
 use check_lint::warnings::all_warnings;
-use check_messages::message::{Diagnostic, Severity};
 use guest_code::kinds::{NameKind, kind_of};
 use guest_syntax::place::Pos;
 use guest_syntax::tree::Tree;

@@ -6,7 +6,7 @@
 //! - The warnings are those of `check_lint`; here they get their places, and those of a mutex that
 //!   tests rule out go. With a limit, it is also told what `check_lint` saw in that many schedules
 //!   of the program.
-//! - [`advice_text`] answers the lines of diagnostics that `check_messages` writes, with carets
+//! - [`advice_text`] answers the lines of diagnostics that `check_hints` writes, with carets
 //!   under the bytes in question. Above a diagnostic comes the file and line that its line comes
 //!   from, where a preprocessor's mark in the text tells it.
 //!
@@ -31,10 +31,10 @@ mod warning_words;
 
 use crate::allowed::is_allowed;
 use crate::compiled::Compiled;
+use check_hints::diagnostic::put_shown;
+pub use check_hints::diagnostic::{Diagnostic, Note, Severity, Span};
 use check_hints::pieces::pieces;
 use check_hints::refusal::{check_diagnostic, syntax_diagnostic};
-use check_messages::message::put_shown;
-pub use check_messages::message::{Diagnostic, Note, Severity, Span};
 use explain_lines::Marks;
 use guest_code::error::CheckError;
 use guest_code::lowering::lower;

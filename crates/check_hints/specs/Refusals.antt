@@ -5,7 +5,7 @@ use Rattle.guest_syntax.specs.declared.place.Pos.{Pos}
 use Rattle.guest_syntax.specs.declared.error.SyntaxError.TheVariants as syntax
 use Rattle.guest_code.specs.declared.error.CheckError.{CheckError}
 use Rattle.guest_code.specs.declared.error.CheckError.TheVariants as checks
-use Rattle.check_messages.specs.declared.message.Diagnostic.{Diagnostic}
+use Rattle.check_hints.specs.declared.diagnostic.Diagnostic.{Diagnostic}
 
 -- where a refusal of a text is
 abbrev pub syntax_place : SyntaxError → Pos

@@ -2,7 +2,7 @@
 
 ghost use Rattle.std.specs.Prelude.{◌≡◌};
 
-use check_messages::message::{Diagnostic, Note, Severity, Span};
+use crate::diagnostic::{Diagnostic, Note, Severity, Span};
 use std::alloc::{AllocError, Global};
 use std::fmt::{Display, Write};
 

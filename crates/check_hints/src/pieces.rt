@@ -2,7 +2,7 @@
 
 ghost use Rattle.std.specs.Prelude.{◌≡◌};
 
-use check_messages::message::Span;
+use crate::diagnostic::Span;
 use guest_syntax::pieces::{self, Piece, Pieces};
 use guest_syntax::place::Pos;
 use std::alloc::{AllocError, Global};

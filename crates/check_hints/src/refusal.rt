@@ -5,12 +5,12 @@ ghost use Rattle.guest_syntax.specs.{ErrorTexts.syntax_error_text, Tree.tree_vie
 ghost use Rattle.guest_code.specs.ErrorTexts.{check_error_text};
 ghost use Rattle.check_hints.specs.Refusals.{syntax_place, check_place, IsDiagnosticOf};
 
+use crate::diagnostic::{Diagnostic, Severity};
 use crate::faults::tell_fault;
 use crate::message::Message;
 use crate::pieces::{START, pieces, span_at};
 use crate::site::FaultSite;
 use crate::syntax::tell_refusal;
-use check_messages::message::{Diagnostic, Severity};
 use guest_code::error::CheckError;
 use guest_syntax::SyntaxError;
 use guest_syntax::place::Pos;

@@ -10,9 +10,9 @@ use crate::under::search_under;
 use crate::verified::verify_guest;
 use ctxbound_answers::{
     CommandFault, ExplainForm, ExplainRequest, Fault, Host, JoinRequest, PrefixesRequest, Printed,
-    REFUSED, Request, UnderRequest, VerifyRequest, answer_to, serve_file, write_printed,
+    REFUSED, Request, TextFormat, UnderRequest, VerifyRequest, answer_to, explain_text, serve_file,
+    write_printed,
 };
-use ctxbound_explained::{Text, explain_text};
 use ctxbound_words::parse_request;
 use std::fs::Files;
 use std::io::{Input, Write};
@@ -78,7 +78,12 @@ fn answer_for<'a, H: Host + Files + Input, W: Write>(
 ) -> Result<Printed, CommandFault<'a>> {
     let printed = match request {
         Request::Guest { request, .. } => answer_to(rt, request, text),
-        Request::Explain(request, form) => explain_in_form(rt, text, request, *form),
+        Request::Explain(request, ExplainForm::Text { width, steps }) => {
+            let (width, steps) = (*width, *steps);
+            explain_text(rt, text, request, &TextFormat { width, steps })
+        }
+        Request::Explain(request, ExplainForm::Json) => explain_text(rt, text, request, &Json),
+        Request::Explain(request, ExplainForm::Html) => explain_text(rt, text, request, &Html),
         Request::Verify(request) => verify_guest(rt, text, request, out),
         Request::Prefixes(request) => list_prefixes(rt.alloc(), text, request),
         Request::Under(request) => search_under(rt, text, request),
@@ -86,20 +91,4 @@ fn answer_for<'a, H: Host + Files + Input, W: Write>(
         Request::Check(_) | Request::Suite(_) => Err(Fault::File),
     };
     Ok(printed?)
-}
-
-// Explains a schedule of the guest program of this text in this form.
-fn explain_in_form<H: Host>(
-    rt: &H,
-    text: &[u8],
-    request: &ExplainRequest,
-    form: ExplainForm,
-) -> Result<Printed, Fault> {
-    match form {
-        ExplainForm::Text { width, steps } => {
-            explain_text(rt, text, request, &Text { width, steps })
-        }
-        ExplainForm::Json => explain_text(rt, text, request, &Json),
-        ExplainForm::Html => explain_text(rt, text, request, &Html),
-    }
 }

@@ -1,6 +1,6 @@
 //! The formats of an explanation beside text in columns: JSON and an HTML page.
 
-use ctxbound_explained::{Output, Render, has_fewest_preemptions, no_schedule_text};
+use ctxbound_answers::{Output, Render, has_fewest_preemptions, no_schedule_text};
 use explain_page::{explanation_html, explanation_json, no_schedule_html, no_schedule_json};
 use explain_text::{Layout, why_text};
 use explain_told::Told;

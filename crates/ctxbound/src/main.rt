@@ -1,8 +1,8 @@
 //! The program `ctxbound`: what the command words ask for, done on a guest program.
 //!
 //! The crate `ctxbound_words` reads the words, `commands` does what they ask for, and `main` joins
-//! both to the system. What is answered to a replay or a search is in the crate `ctxbound_answers`,
-//! and what an explanation answers in `ctxbound_explained`; `forms` has its formats beside text.
+//! both to the system. What is answered to a replay, a search or the question why is in the crate
+//! `ctxbound_answers`; `forms` has the formats of explanations beside text.
 //! The other commands are in `checks`, `suites`, `verified`, `prefixes` and `joins`; `under` has
 //! searches under a prefix.
 #![tactic(auto)]

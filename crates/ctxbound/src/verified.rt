@@ -2,10 +2,9 @@
 
 use check_advice::{Checked, Diagnostic, check};
 use check_hints::pieces::pieces;
-use ctxbound_answers::{Fault, Host, Printed, VerifyRequest};
-use ctxbound_explained::run_out_text;
+use ctxbound_answers::{Fault, Host, Printed, VerifyRequest, run_out_text};
 use ctxbound_suite::{BadSchedule, Correctness, Preemptions, verify_text};
-use explain_lines::{Count, Marks};
+use explain_lines::{Count, Marks, shell_quoted};
 use guest_syntax::pieces::Piece;
 use replay::schedule_text;
 use semantics::view::Kind;
@@ -15,6 +14,9 @@ use std::io;
 
 /// Up to how many schedules it is looked for caveats to the answer that a program is right.
 const CAVEAT_DEPTH: u64 = 1_000_000;
+
+/// The number of the remark that a check was cut short.
+const CUT_SHORT: &str = "W21";
 
 /// What is said at the end where the searches leave open whether a program is right.
 const HIGHER_LIMIT: &str = "A higher --limit says more.";
@@ -58,9 +60,9 @@ fn right_text<H: Host, W: io::Write>(
     out: &mut W,
 ) -> Result<String, AllocError> {
     let (alloc, file) = (rt.alloc(), request.file.as_str());
-    let mut told = format!(in alloc; "RIGHT: no schedule of {file} fails or gets stuck.\n")?;
-    if out.write_all(told.as_bytes()).is_ok() && out.flush().is_ok() {
-        told.clear();
+    let mut lines = format!(in alloc; "RIGHT: no schedule of {file} fails or gets stuck.\n")?;
+    if out.write_all(lines.as_bytes()).is_ok() && out.flush().is_ok() {
+        lines.clear();
     }
     let pieces = pieces(alloc, text)?;
     if CAVEATS.iter().any(|caveat| has_word(&pieces, caveat.1)) {
@@ -69,17 +71,17 @@ fn right_text<H: Host, W: io::Write>(
             let tried = Count(depth as usize, "schedule");
             let _ = rt.eprintln(format_args!("caveats: looked for in at most {tried}"));
         }
-        put_caveats(&mut told, alloc, text, &pieces, depth)?;
+        put_caveats(&mut lines, alloc, text, &pieces, depth)?;
     }
-    Ok(told)
+    Ok(lines)
 }
 
-// Adds to `told` a line for each warning of `CAVEATS` that a check of the schedules of the program of
+// Adds to `lines` one for each warning of `CAVEATS` that a check of the schedules of the program of
 // this text, up to `depth` of them, finds, and for each that the check may have missed since it was
 // cut short there. A warning's place is its line and column, or the file and line that a
 // preprocessor's mark names.
 fn put_caveats(
-    told: &mut String,
+    lines: &mut String,
     alloc: Global,
     text: &[u8],
     pieces: &[Piece<'_>],
@@ -95,9 +97,9 @@ fn put_caveats(
             Some(_) => format!(in alloc; "{}", marks.file_line("", line).with_name())?,
             None => format!(in alloc; "{line}:{column}")?,
         };
-        put_caveat(told, alloc, diagnostic, at.as_str())?;
-        if diagnostic.code().0 == "W21" {
-            put_missed_caveats(told, depth, pieces)?;
+        put_caveat(lines, alloc, diagnostic, at.as_str())?;
+        if diagnostic.code().0 == CUT_SHORT {
+            put_missed_caveats(lines, depth, pieces)?;
         }
     }
     Ok(())
@@ -115,10 +117,10 @@ const CAVEATS: [(&str, &[u8], &str); 2] = [
     ("W13", b"signal", "signals for which several threads wait"),
 ];
 
-// Adds to `told`, the answer that a program is right, the message of a diagnostic at the place `at`,
-// where it is a warning of `CAVEATS`.
+// Adds to `lines` a line with the message of a diagnostic at the place `at`, where it is a warning
+// of `CAVEATS`.
 fn put_caveat(
-    told: &mut String,
+    lines: &mut String,
     alloc: Global,
     diagnostic: &Diagnostic,
     at: &str,
@@ -126,22 +128,22 @@ fn put_caveat(
     let (number, name) = diagnostic.code();
     if CAVEATS.iter().any(|caveat| caveat.0 == number) {
         let message = String::from_utf8_lossy(alloc, diagnostic.message.as_slice())?;
-        writeln!(told, "But {number} {name} at {at}: {message}")?;
+        writeln!(lines, "But {number} {name} at {at}: {message}")?;
     }
     Ok(())
 }
 
-// Adds to `told` a line for each of `CAVEATS` whose word is among the text's `pieces`, where the
+// Adds to `lines` one for each of `CAVEATS` whose word is among the text's `pieces`, where the
 // check was cut short after `depth` schedules.
 fn put_missed_caveats(
-    told: &mut String,
+    lines: &mut String,
     depth: u64,
     pieces: &[Piece<'_>],
 ) -> Result<(), AllocError> {
     for (_, word, sought) in CAVEATS {
         if has_word(pieces, word) {
             let tried = Count(depth as usize, "schedule");
-            writeln!(told, "But {sought} were looked for in {tried} alone.")?;
+            writeln!(lines, "But {sought} were looked for in {tried} alone.")?;
         }
     }
     Ok(())
@@ -188,14 +190,4 @@ fn undecided_text(alloc: Global, file: &str, below: u32) -> Result<String, Alloc
             "UNDECIDED: no schedule of {file} with {at_most}{count} is bad. {HIGHER_LIMIT}\n"
         ),
     }
-}
-
-// A word quoted for a shell: in single quotes, where a single quote in it is `'\''`, if it is empty
-// or has anything but letters, digits and signs that a shell takes as they are.
-fn shell_quoted(alloc: Global, word: &str) -> Result<String, AllocError> {
-    let is_plain = |b: &u8| b.is_ascii_alphanumeric() || b"_./+-@%:,".contains(b);
-    if !word.is_empty() && word.as_bytes().iter().all(is_plain) {
-        return word.to_string(alloc);
-    }
-    format!(in alloc; "'{}'", word.replace(alloc, "'", "'\\''")?)
 }

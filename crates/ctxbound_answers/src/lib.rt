@@ -10,6 +10,10 @@
 //!   [`Fault`] is why there is no answer, with the line that tells so, and its status.
 //! - [`serve`] reads a text, answers and writes; [`exit_status`] is the status that the program ends
 //!   with then; [`serve_file`] does all that with a file.
+//! - [`explain_text`] explains why a schedule ends as it does, for the bytes of a text: the schedule
+//!   that an [`ExplainRequest`] asks for, or the bad one that a search finds. Its contract says
+//!   which, and the status. [`Render`] is the trait of a format of explanations;
+//!   [`TextFormat`] is that for a terminal.
 //! - A [`CommandFault`] is why a command printed nothing. Unlike a [`Fault`] it may name the file
 //!   or the stream that failed. [`read_file`] reads the text of a file for such a command, and
 //!   [`write_printed`] writes what the command prints.
@@ -18,6 +22,7 @@
 #![tactic(auto)]
 
 mod answer;
+mod explained;
 mod exploration;
 mod fault;
 mod host;
@@ -27,6 +32,10 @@ mod request;
 mod serving;
 
 pub use answer::{Printed, answer_to, explore_text, replay_status, replay_text, verdict_status};
+pub use explained::{
+    Explained, Output, Render, TextFormat, explain_text, has_fewest_preemptions, no_schedule_text,
+    run_out_text,
+};
 pub use exploration::{DEFAULT_BOUND, Exploration, GuestRequest, has_equal_threads, once_words};
 pub use fault::{CommandFault, Fault, REFUSED};
 pub use host::Host;

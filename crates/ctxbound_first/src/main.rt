@@ -5,9 +5,9 @@
 
 use ctxbound_answers::{
     CommandFault, DEFAULT_LIMIT, DEFAULT_STEPS, DEFAULT_WIDTH, ExplainRequest, Exploration,
-    GuestRequest, Host, Printed, REFUSED, read_file, serve_file, write_printed,
+    GuestRequest, Host, Printed, REFUSED, TextFormat, explain_text, read_file, serve_file,
+    write_printed,
 };
-use ctxbound_explained::{Text, explain_text};
 use runner::{BOUND, Options, Search};
 use std::fs::Files;
 use std::io::{Input, Write};
@@ -73,7 +73,7 @@ fn explain_file<'a, H: Host + Files + Input>(
 ) -> Result<Printed, CommandFault<'a>> {
     let file = request.file.as_str();
     let text = read_file(rt, file).map_err(|error| CommandFault::Device(file, error))?;
-    let form = Text {
+    let form = TextFormat {
         width: DEFAULT_WIDTH as usize,
         steps: DEFAULT_STEPS as usize,
     };

@@ -6,11 +6,11 @@ use Rattle.runner_report.specs.Texts.{IsProgramOf}
 use Rattle.ctxbound_answers.specs.declared.limits.Limits.{Limits}
 use Rattle.ctxbound_suite.specs.declared.found.Found.{Found}
 use Rattle.ctxbound_suite.specs.Shown.{options_of, clean_below, IsFound}
-use Rattle.ctxbound_suite.specs.Suites.{is_enough, second_bound, told_search, IsSearched}
+use Rattle.ctxbound_suite.specs.Suites.{needs_no_second, second_bound, told_search, IsSearched}
 
 pub one_search : (text : List ℕ) (p : Program) (l : Limits) (f : Found)
     → IsProgramOf text p → IsFound p (options_of Unbounded l.limit) f
-    → is_enough f.report.verdict f.bad ≡ true
+    → needs_no_second f.report.verdict f.bad ≡ true
     → IsSearched text l (record { found = f; clear = 0 })
 one_search text p l f of is enough = record {
   program = p;
@@ -21,7 +21,7 @@ one_search text p l f of is enough = record {
 
 pub two_searches : (text : List ℕ) (p : Program) (l : Limits) (f g : Found)
     → IsProgramOf text p → IsFound p (options_of Unbounded l.limit) f
-    → is_enough f.report.verdict f.bad ≡ false
+    → needs_no_second f.report.verdict f.bad ≡ false
     → IsFound p (options_of (UpTo (second_bound l.bound f.bad)) l.limit) g
     → IsSearched text l (record { found = told_search f g; clear = clean_below g.report })
 two_searches text p l f g of is more bounded = record {

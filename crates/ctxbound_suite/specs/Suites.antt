@@ -20,8 +20,8 @@ abbrev pub needs_none : Option BadSchedule → Bool
 needs_none None = true
 needs_none (Some b) = nat_eq b.preemptions 0
 
-abbrev pub is_enough : Verdict → Option BadSchedule → Bool
-is_enough v bad = not (is_cut_short v) && needs_none bad
+abbrev pub needs_no_second : Verdict → Option BadSchedule → Bool
+needs_no_second v bad = not (is_cut_short v) && needs_none bad
 
 -- how far the second search goes: to the preemptions of the schedule that the first one found, or up
 -- to the bound
@@ -40,14 +40,14 @@ told_search first second = told_of first first.bad second second.bad
 -- the search without a bound is told
 pub record IsOfOne (p : Program) (l : Limits) (s : SearchResult) : Type 0 where
   pub first : IsFound p (options_of Unbounded l.limit) s.found
-  pub enough : is_enough s.found.report.verdict s.found.bad ≡ true
+  pub enough : needs_no_second s.found.report.verdict s.found.bad ≡ true
   pub clear : s.clear ≡ 0
 
 -- a second search was made, and one of both is told
 pub record IsOfTwo (p : Program) (l : Limits) (s : SearchResult) : Type 0 where
   pub first : Found
   pub unbounded : IsFound p (options_of Unbounded l.limit) first
-  pub more : is_enough first.report.verdict first.bad ≡ false
+  pub more : needs_no_second first.report.verdict first.bad ≡ false
   pub second : Found
   pub bounded : IsFound p (options_of (UpTo (second_bound l.bound first.bad)) l.limit) second
   pub told : s.found ≡ told_search first second

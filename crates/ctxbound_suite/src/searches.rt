@@ -1,7 +1,7 @@
 //! The searches of one text, and which of them is reported.
 
 ghost use Rattle.std.specs.Prelude.{◌≡◌};
-ghost use Rattle.ctxbound_suite.specs.Suites.{SearchMeans, is_enough, second_bound, told_search};
+ghost use Rattle.ctxbound_suite.specs.Suites.{SearchMeans, needs_no_second, second_bound, told_search};
 
 use crate::found::{BadSchedule, Found, run_search};
 use ctxbound_answers::{Host, Limits};
@@ -32,7 +32,7 @@ pub fn search<H: Host>(rt: &H, text: &[u8], limits: Limits) -> Result<SearchResu
 {
     let program = program_of(rt.alloc(), text)?;
     let first = run_search(rt, &program, Search::Unbounded, limits)?;
-    if is_enough(&first) {
+    if needs_no_second(&first) {
         return Ok(SearchResult {
             found: first,
             clear: 0,
@@ -45,10 +45,10 @@ pub fn search<H: Host>(rt: &H, text: &[u8], limits: Limits) -> Result<SearchResu
     Ok(SearchResult { found, clear })
 }
 
-// Whether the first search of a text, which has no bound, makes a second needless: it wasn't cut
-// short, and found no bad schedule, or one without a preemption.
-fn is_enough(first: &Found) -> bool
-    ensures { result ≡ is_enough first.now.report.verdict first.now.bad }
+// Whether the first search of a text, which has no bound, makes needless a second one, for a bad
+// schedule with fewer preemptions: it wasn't cut short, and found none, or one without a preemption.
+fn needs_no_second(first: &Found) -> bool
+    ensures { result ≡ needs_no_second first.now.report.verdict first.now.bad }
 {
     let needs_none = match &first.bad {
         None => true,

@@ -4,7 +4,6 @@ ghost use Rattle.std.specs.Prelude.{◌≡◌, ◌++◌, IfOk};
 ghost use Rattle.replay.specs.Spelling.{printed};
 ghost use Rattle.runner_joining.specs.ErrorTexts.{place_text, join_error_text, needs_work};
 
-use check_messages::words::decimal;
 use replay::schedule_text;
 use std::alloc::{AllocError, Global};
 use walk_cover::CoverError;
@@ -102,7 +101,7 @@ fn place_phrase(alloc: Global, words: &[u8], place: &PartPlace) -> Result<Vec<u8
     let mut text = Vec::from_slice(alloc, words)?;
     if let Some(bound) = place.bound {
         text.extend_from_slice(b" at bound ")?;
-        text.extend_from_slice(decimal(alloc, u64::from(bound))?.as_bytes())?;
+        text.extend_from_slice(format!(in alloc; "{bound}")?.as_bytes())?;
     }
     text.extend_from_slice(prefix_phrase(alloc, b" under ", &place.under, b"")?.as_slice())?;
     Ok(text)

@@ -5,12 +5,13 @@ ghost use Rattle.std.specs.Arc.{arc_value};
 ghost use Rattle.guest_code.specs.SourceMap.{IsMapOf};
 ghost use Rattle.runner_report.specs.Texts.{IsProgramOf, ExploreErrorMeans};
 ghost use Rattle.runner_report.specs.declared.error.ExploreError.TheVariants.{OutOfMemory};
-ghost use Rattle.ctxbound_explained.specs.Explained.{ExplainMeans, ExplainFaultMeans, IsExplained, IsOfReport, asked, explained_status, told_status, IsSearched, is_followed, is_open, told_report};
+ghost use Rattle.ctxbound_answers.specs.Explained.{ExplainMeans, ExplainFaultMeans, IsExplained, IsOfReport, asked, explained_status, told_status, IsSearched, is_followed, is_open, told_report};
 
-use ctxbound_answers::{
-    ExplainRequest, Exploration, Fault, Host, Printed, REFUSED, has_equal_threads, once_words,
-    replay_status, verdict_status,
-};
+use crate::answer::{Printed, replay_status, verdict_status};
+use crate::exploration::{Exploration, has_equal_threads, once_words};
+use crate::fault::{Fault, REFUSED};
+use crate::host::Host;
+use crate::request::ExplainRequest;
 use explain_run::{Explanation, Source, name_text};
 use explain_text::{Layout, explanation_text, run_out_lines};
 use explain_told::Told;
@@ -42,12 +43,12 @@ pub trait Render {
 /// The format of explanations as text, in lines of at most `width` columns. Each step has a row
 /// where there are at most `steps` steps, else only those that matter.
 #[derive(Clone, Copy)]
-pub struct Text {
+pub struct TextFormat {
     pub width: usize,
     pub steps: usize,
 }
 
-impl Render for Text {
+impl Render for TextFormat {
     // The explanation as text. Where a search found the schedule it also says whether that showed
     // that no bad schedule has fewer preemptions.
     fn explanation(&self, told: &Told<'_>, search: Option<&Report>) -> Output {

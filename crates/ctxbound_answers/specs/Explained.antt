@@ -17,8 +17,8 @@ use Rattle.ctxbound_answers.specs.{Answer.FaultMeans, Status.{replay_status, ver
 use Rattle.ctxbound_answers.specs.declared.{answer.Printed.Printed, fault.Fault.Fault}
 use Rattle.ctxbound_answers.specs.declared.fault.Fault.TheVariants.{Replay}
 use Rattle.ctxbound_answers.specs.declared.request.ExplainRequest.{ExplainRequest}
-use Rattle.ctxbound_explained.specs.declared.explained.Explained.{Explained}
-use Rattle.ctxbound_explained.specs.declared.explained.Explained.TheVariants.{Asked, Found, NoneFound}
+use Rattle.ctxbound_answers.specs.declared.explained.Explained.{Explained}
+use Rattle.ctxbound_answers.specs.declared.explained.Explained.TheVariants.{Asked, Found, NoneFound}
 
 -- the status after an explanation: that of a replay, which refuses a schedule that can't go on
 abbrev pub explained_status : Option ℕ → Option Kind → ℕ

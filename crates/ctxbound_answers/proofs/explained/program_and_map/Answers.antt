@@ -1,6 +1,6 @@
 use Rattle.std.proofs.lemmas.Result.{err_from_is_err_and}
 use Rattle.runner.proofs.ReadTexts.{syntax_means}
-use Rattle.ctxbound_explained.proofs.explained.program_and_map.Goals as goal
+use Rattle.ctxbound_answers.proofs.explained.program_and_map.Goals as goal
 
 pub returns-in_err-tree-clause-error : goal.returns-in_err-tree-clause-error
 returns-in_err-tree-clause-error c =

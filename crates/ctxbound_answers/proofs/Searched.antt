@@ -3,7 +3,7 @@ use Rattle.std.proofs.Common.{◌≡◌, Bool, true, false, refl, sym, subst}
 use Rattle.guest_code.specs.Program.{Program}
 use Rattle.runner_report.specs.{Promises.IsReport, declared.options.Options.Options}
 use Rattle.runner_report.specs.declared.report.Report.{Report}
-use Rattle.ctxbound_explained.specs.Explained.{IsSearched, IsTold, is_followed, told_report, without_bound}
+use Rattle.ctxbound_answers.specs.Explained.{IsSearched, IsTold, is_followed, told_report, without_bound}
 
 -- the same search with equal threads once, or without
 abbrev pub by : Options → Bool → Options
