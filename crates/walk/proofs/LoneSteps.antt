@@ -9,15 +9,17 @@ use Rattle.semantics.specs.{Ends.{is_empty, is_terminal, enabled}, Machine.{Snap
 use Rattle.semantics.specs.{Mask.{has, members_from, one_if}, Reachable.IsOf, Work.up_from}
 use Rattle.semantics.{specs.declared.mask.Mask.Mask, proofs.TerminalStates.is_terminal-some}
 use Rattle.semantics.proofs.WorkFalls.{enabled_below}
+use Rattle.semantics_schedules.specs.Schedules.{preemptions, last_of}
 use Rattle.walk_items.specs.Children.{is_kept_step, kept_steps, child_of, children_of, children}
 use Rattle.walk_items.specs.Children.{is_hidden_after}
 use Rattle.walk_items.specs.{Items.ItemView, declared.mode.Mode.Mode}
 use Rattle.walk_items.specs.declared.mode.Mode.TheVariants.{Bounded, Reduced, BoundedOnce, ReducedOnce}
 use Rattle.walk_items.proofs.{Filters.filter_twice, HiddenSteps.lone_once}
 use Rattle.walk.specs.declared.{found.Found.Found, path.Node.Node, path.Path.Path}
-use Rattle.walk.specs.inner.Paths.{is_preempting, preempts_last, state_at, IsNode}
+use Rattle.walk.specs.inner.Paths.{is_preempting, preempts_last, state_at, IsNode, IsPath}
 use Rattle.walk.specs.inner.WalkerInvariant.{item_of, here, left_above, is_kept_at, is_past_at, is_put_off_at}
-use Rattle.walk.specs.inner.WalkerInvariant.{IsWithinAt, IsFree, at_bound, IsAtBound, IsSearch}
+use Rattle.walk.specs.inner.WalkerInvariant.{IsWithinAt, IsFree, has_bound, at_bound, IsAtBound}
+use Rattle.walk.specs.inner.WalkerInvariant.{IsSearch}
 use Rattle.walk.specs.inner.WalkerInvariant.{HasPut, IsShared, IsWalkedOn, open_here, open_below}
 use Rattle.walk.proofs.Expansions.{AreOn, node_of, past_deferred, IsTurned, place_turned, left_turned, here_turned, of_here, turned_here, both_of}
 use Rattle.walk.proofs.{SharedSteps.shared_same, WalkTurns.{filter_alike, kept_alike, and_true}}
@@ -31,7 +33,7 @@ only_later t first (suc n) h =
     let e : nat_eq t first ≡ false = grind (arith, nat_tests, h) in
     rw e (only_later t (suc first) n (omega arith))
 
-only_here : (t first n : ℕ) → first ≤ t → t < first + n →
+pub only_here : (t first n : ℕ) → first ≤ t → t < first + n →
     filter (nat_eq t) (up_from first n) ≡ t ∷ []
 only_here t first zero from to = absurd (omega arith)
 only_here t first (suc n) from to = elim (cases_lt first t) [
@@ -284,15 +286,18 @@ free_alone Reduced p t u within last h = λ e on v. none_in (has e v) false refl
 free_alone (BoundedOnce bound) p t u within last h = free_alone_at bound p t u within last h
 free_alone ReducedOnce p t u within last h = λ e on v. none_in (has e v) false refl
 
-free_first_at : (bound : ℕ) (p : Program) (t : Path) → t.node.used ≤ bound
-    → t.node.last ≡ None → IsFree (Bounded bound) p t
-free_first_at bound p t within last = λ e on v.
-    none_in (has e v) _ ((λ k. nat_lt bound (t.node.used + one_if (preempts_last (last k) e v)))
-    ∙ (let z : nat_lt bound (t.node.used + 0) ≡ false = grind (arith, nat_tests, within) in z))
+-- nor does one where no step led to the node
+free_first_at : (bound : ℕ) (p : Program) (t : Path) → IsPath p t → t.steps.items ≡ []
+    → IsFree (Bounded bound) p t
+free_first_at bound p t h none = λ e on v.
+    let used : t.node.used ≡ 0 = h.reaches.preemptions ∙ ap (preemptions p) none in
+    let last : t.node.last ≡ None = h.reaches.last ∙ ap last_of none in
+    none_in (has e v) _ ((λ k. nat_lt bound (used k + one_if (preempts_last (last k) e v)))
+    ∙ (let z : nat_lt bound 0 ≡ false = grind (arith, nat_tests) in z))
 
-pub free_first : (mode : Mode) (p : Program) (t : Path) → IsWithinAt mode t.node
-    → t.node.last ≡ None → IsFree mode p t
-free_first (Bounded bound) p t within last = free_first_at bound p t within last
-free_first Reduced p t within last = λ e on v. none_in (has e v) false refl
-free_first (BoundedOnce bound) p t within last = free_first_at bound p t within last
-free_first ReducedOnce p t within last = λ e on v. none_in (has e v) false refl
+pub free_first : (mode : Mode) (p : Program) (t : Path) → IsPath p t
+    → (has_bound mode ≡ true → t.steps.items ≡ []) → IsFree mode p t
+free_first (Bounded bound) p t h none = free_first_at bound p t h (none refl)
+free_first Reduced p t h none = λ e on v. none_in (has e v) false refl
+free_first (BoundedOnce bound) p t h none = free_first_at bound p t h (none refl)
+free_first ReducedOnce p t h none = λ e on v. none_in (has e v) false refl

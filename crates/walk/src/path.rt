@@ -5,7 +5,7 @@ ghost use Rattle.std.specs.Prelude.{◌≡◌, ◌+◌, ◌*◌, ◌-◌, ◌<�
 ghost use Rattle.semantics.specs.{Machine.{start, is_enabled}, Mask.one_if};
 ghost use Rattle.semantics_schedules.specs.Schedules.{runs};
 ghost use Rattle.walk.specs.inner.Paths.{IsPath, used_frames, frame_at, is_preempting, state_at};
-ghost use Rattle.walk.specs.inner.WalkerInvariant.{IsPushed, IsExtended, left_above, still_open, at_bound, runs_on};
+ghost use Rattle.walk.specs.inner.WalkerInvariant.{IsPushed, IsExtended, IsSought, left_above, still_open, at_bound, runs_on};
 ghost use Rattle.walk_items.specs.declared.mode.Mode.{Mode};
 
 use guest_code::laws::programs_are_well_formed;
@@ -81,7 +81,7 @@ impl Node {
     // Becomes the node after a step of a thread, where `enabled` were enabled before the step and
     // `asleep` sleep after it. Counts a preemption if the thread of the step before is another and
     // was enabled. Whose steps from there are to be tried (`todo`) isn't set yet.
-    fn step(&mut self, enabled: Mask, thread: u8, asleep: Mask)
+    pub(crate) fn step(&mut self, enabled: Mask, thread: u8, asleep: Mask)
         requires { self.old.used + 1 < 2 ^ 32 }
         ensures asleep { self.new.asleep ≡ asleep }
         ensures last { self.new.last ≡ Some thread }
@@ -307,8 +307,9 @@ impl Path {
     }
 
     // Takes the step of a schedule at the index `place`, where the path has the steps before it:
-    // a run, which is one step in the mode `Reduced`. Pushes a frame of every second node but the
-    // last: that saves half the copies of states, and costs a later replay a step or two.
+    // a run, which is one step in the mode `Reduced`. Pushes a frame of the last node, from which
+    // walks often begin one after another, and of every second one before it: that saves half the
+    // copies of states, and costs a later replay a step or two.
     fn replay_step(
         &mut self,
         program: &Program,
@@ -331,7 +332,7 @@ impl Path {
             Mask::empty(),
             false,
         )?;
-        if place + 1 < schedule.len() && place % 2 == 1 {
+        if place + 1 == schedule.len() || place % 2 == 1 {
             self.push_frame(program)
         } else {
             Ok(())
@@ -339,14 +340,13 @@ impl Path {
     }
 
     /// Makes the steps of a schedule the path's: goes back to steps with which the schedule begins,
-    /// and takes the others. Where the path has no frame, pushes one of its node first. Fails where
-    /// memory runs out.
+    /// and takes the others. Where the path has no frame, pushes one of its node first. A walk can
+    /// begin there, and won't backtrack to the frames that there are. Fails where memory runs out.
     pub fn replay(&mut self, program: &Program, schedule: &[u8]) -> Result<(), AllocError>
         requires path { IsPath program.now self.old }
         requires runs { runs program.now (start program.now) schedule.now ≡ true }
         ensures path { IsPath program.now self.new }
-        ensures frames { OnOk result (0 < self.new.depth) }
-        ensures steps { OnOk result (self.new.steps.items ≡ schedule.now) }
+        ensures sought { OnOk result (IsSought program.now schedule.now self.new) }
     {
         if self.depth == 0 {
             self.push_frame(program)?;
@@ -356,6 +356,7 @@ impl Path {
         for place in self.steps.len()..schedule.len() {
             self.replay_step(program, schedule, place)?;
         }
+        self.base = self.depth;
         Ok(())
     }
 }

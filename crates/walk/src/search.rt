@@ -4,13 +4,14 @@ ghost use Rattle.std.specs.Prelude.{◌≡◌, ◌+◌, ◌-◌, ◌++◌, ◌�
 ghost use Rattle.std.specs.Prelude.{IfOk, Some, OnOk, IsTrue, IsFalse, length, take, min, All};
 ghost use Rattle.guest_code.specs.declared.limits.TheConstants.{THREADS};
 ghost use Rattle.semantics.specs.{Ends.is_empty, Machine.is_enabled};
-ghost use Rattle.semantics.specs.Mask.{HasEnabled, has, members_from, no_threads};
+ghost use Rattle.semantics.specs.Mask.{HasEnabled, has, members_from};
 ghost use Rattle.walk_items.specs.{Children.{child_of, is_hidden_after, mask_after, cost_of}, Items.IsItem};
-ghost use Rattle.walk_summary.specs.Summaries.{with_beyond, greatest_count};
-ghost use Rattle.walk.specs.{Founds.HasAdded, inner.Paths.{IsPath, used_frames, state_at}};
+ghost use Rattle.walk_summary.specs.Summaries.{IsSummary, with_beyond, greatest_count};
+ghost use Rattle.walk.specs.{Founds.HasAdded, inner.Paths.{IsPath, state_at}};
 ghost use Rattle.walk.specs.inner.WalkerInvariant.{IsPlace, Searches, GoesOn, IsPushedIfOpen, here, open_here, open_below, still_open};
 ghost use Rattle.walk.specs.inner.WalkerInvariant.{turns_left, turns_from, turns_into, turns_next, open_next, is_kept_at, is_past_at, is_once};
-ghost use Rattle.walk.specs.inner.WalkerInvariant.{is_past_here, IsFree, at_bound, IsShared, HasPut};
+ghost use Rattle.walk.specs.inner.WalkerInvariant.{is_past_here, has_bound, IsFree, at_bound, IsShared, HasPut};
+ghost use Rattle.walk.specs.inner.WalkerInvariant.{IsToSearch, HasSearched, Begins};
 
 use crate::found::Found;
 use crate::path::{Node, Path};
@@ -25,7 +26,6 @@ impl Found {
     // prefix that ends in that step, and notes that some schedule has more preemptions than the
     // bound. `steps` is changed to write the prefix, and then changed back. `shared`, the number of
     // steps that the walk has in common with the prefix deferred last, is `place` then.
-    #[inline(always)]
     fn defer_one(&mut self, steps: &mut Vec<u8>, place: usize, thread: u8) -> Result<(), AllocError>
         requires place { place < length steps.old.items }
         requires shared { IsShared (take place steps.old.items) self.old }
@@ -52,7 +52,6 @@ impl Found {
 
     // Defers steps of the threads `past`, each past the bound, from the node after `_steps`, where
     // the prefix deferred last ends in a step from that node, too: so only last steps are written.
-    #[inline(always)]
     fn defer_siblings(&mut self, _steps: &[u8], past: Mask) -> Result<(), AllocError>
         requires shared { IsShared _steps.now self.old }
         requires here { self.old.shared ≡ length _steps.now }
@@ -162,6 +161,21 @@ fn without_first(set: Mask, first: u8) -> Mask
     set.with(first, false)
 }
 
+// Whether the walk of an item begins before the last step of its prefix: in a mode with a bound,
+// if there is such a step. Masks don't count there, so that step leads to the item.
+fn has_parent(item: &Item, mode: Mode) -> bool
+    ensures bound { IsTrue result → has_bound mode ≡ true }
+    ensures some { IsTrue result → 0 < length item.now.prefix }
+    ensures none { IsFalse result → has_bound mode ≡ true → item.now.prefix ≡ [] }
+{
+    match mode {
+        Mode::Bounded(_) => !item.prefix().is_empty(),
+        Mode::BoundedOnce(_) => !item.prefix().is_empty(),
+        Mode::Reduced => false,
+        Mode::ReducedOnce => false,
+    }
+}
+
 impl Node {
     // The threads of `enabled` whose steps from the node are to be tried unless they are hidden: in a
     // mode without a bound those that don't sleep. No step passes the bound, as the caller makes
@@ -185,6 +199,18 @@ impl Node {
         ensures { result ≡ (at_bound mode self.now && has enabled thread) }
     {
         self.is_at_bound(mode) && enabled.has(thread)
+    }
+
+    // Whether the node has more preemptions than the bound; false in the mode without a bound.
+    fn is_past_bound(&self, mode: Mode) -> bool
+        ensures { result ≡ is_past_here mode self.now }
+    {
+        match mode {
+            Mode::Bounded(bound) => self.used > bound,
+            Mode::BoundedOnce(bound) => self.used > bound,
+            Mode::Reduced => false,
+            Mode::ReducedOnce => false,
+        }
     }
 }
 
@@ -379,32 +405,6 @@ impl Path {
         Ok(())
     }
 
-    // Takes runs of the thread of the path's last step, as long as it alone may step within the
-    // bound, and defers other threads' steps. Does nothing where the path has no step.
-    fn run_last_thread_if_alone(
-        &mut self,
-        found: &mut Found,
-        item: &Item,
-        mode: Mode,
-    ) -> Result<(), AllocError>
-        requires search { Searches mode item.now self.old found.old
-            (open_here mode item.now.program self.old) }
-        ensures path { IsPath item.now.program self.new }
-        ensures search { let p = item.now.program in OnOk result (GoesOn mode item.now
-            self.old found.old (open_here mode p self.old)
-            self.new found.new (open_here mode p self.new)) }
-        ensures free { OnOk result (IsFree mode item.now.program self.new) }
-        ensures tried { OnOk result (found.new.part.tried ≡ found.old.part.tried) }
-    {
-        let Some(thread) = self.node.last else {
-            return Ok(());
-        };
-        if self.defer_others_if_alone(found, item, mode, thread)? {
-            self.run(found, item, mode, thread)?;
-        }
-        Ok(())
-    }
-
     // Pushes a frame of the node, to backtrack to, if a further step from it is to be tried.
     #[inline(always)]
     fn push_frame_if_open(&mut self, program: &Program) -> Result<(), AllocError>
@@ -508,16 +508,10 @@ impl Path {
         mode: Mode,
         limit: u64,
     ) -> Result<(), AllocError>
-        requires search { Searches mode item.now self.old found.old
-            (still_open mode item.now.program self.old) }
-        requires few { found.old.part.tried ≤ limit }
+        requires { IsToSearch mode item.now limit self.old found.old }
         ensures path { IsPath item.now.program self.new }
-        ensures search { let p = item.now.program in OnOk result (GoesOn mode item.now
-            self.old found.old (still_open mode p self.old)
-            self.new found.new (still_open mode p self.new)) }
-        ensures few { OnOk result (found.new.part.tried ≤ limit) }
-        ensures all { OnOk result (found.new.part.tried < limit
-            → still_open mode item.now.program self.new ≡ []) }
+        ensures searched { OnOk result
+            (HasSearched mode item.now limit self.old found.old self.new found.new) }
     {
         let mut going = true;
         while going && found.is_below_limit(limit) {
@@ -533,8 +527,7 @@ impl Path {
     }
 
     // Takes steps that are still to be tried, depth first, until `found` counts `limit` schedules
-    // or none of the item is left: by `search_in`, which is compiled to a loop for each mode.
-    #[inline(never)]
+    // or none of the item is left.
     fn search(
         &mut self,
         alloc: Global,
@@ -543,30 +536,45 @@ impl Path {
         mode: Mode,
         limit: u64,
     ) -> Result<(), AllocError>
-        requires plain { is_once mode ≡ false }
-        requires search { Searches mode item.now self.old found.old
-            (still_open mode item.now.program self.old) }
-        requires few { found.old.part.tried ≤ limit }
+        requires { IsToSearch mode item.now limit self.old found.old }
         ensures path { IsPath item.now.program self.new }
-        ensures search { let p = item.now.program in OnOk result (GoesOn mode item.now
-            self.old found.old (still_open mode p self.old)
-            self.new found.new (still_open mode p self.new)) }
-        ensures few { OnOk result (found.new.part.tried ≤ limit) }
-        ensures all { OnOk result (found.new.part.tried < limit
-            → still_open mode item.now.program self.new ≡ []) }
+        ensures searched { OnOk result
+            (HasSearched mode item.now limit self.old found.old self.new found.new) }
     {
         match mode {
-            Mode::Bounded(bound) => {
-                self.search_in(alloc, found, item, Mode::Bounded(bound), limit)
-            }
-            Mode::Reduced => self.search_in(alloc, found, item, Mode::Reduced, limit),
+            Mode::Bounded(_) => self.search_all(alloc, found, item, mode, limit),
+            Mode::Reduced => self.search_all(alloc, found, item, mode, limit),
+            Mode::BoundedOnce(_) => self.search_once(alloc, found, item, mode, limit),
+            Mode::ReducedOnce => self.search_once(alloc, found, item, mode, limit),
+        }
+    }
+
+    // The search where equal threads are all tried: `search_in` is compiled to a loop for each arm,
+    // which knows its mode. With more loops beside these less would be inlined in each.
+    #[inline(never)]
+    fn search_all(
+        &mut self,
+        alloc: Global,
+        found: &mut Found,
+        item: &Item,
+        mode: Mode,
+        limit: u64,
+    ) -> Result<(), AllocError>
+        requires plain { is_once mode ≡ false }
+        requires ready { IsToSearch mode item.now limit self.old found.old }
+        ensures path { IsPath item.now.program self.new }
+        ensures searched { OnOk result
+            (HasSearched mode item.now limit self.old found.old self.new found.new) }
+    {
+        match mode {
+            Mode::Bounded(_) => self.search_in(alloc, found, item, mode, limit),
+            Mode::Reduced => self.search_in(alloc, found, item, mode, limit),
             Mode::BoundedOnce(_) => unreachable!(),
             Mode::ReducedOnce => unreachable!(),
         }
     }
 
-    // The search where equal threads are tried once: apart, so that the others are as fast as
-    // without it.
+    // The search where equal threads are tried once.
     #[inline(never)]
     fn search_once(
         &mut self,
@@ -577,53 +585,16 @@ impl Path {
         limit: u64,
     ) -> Result<(), AllocError>
         requires once { is_once mode ≡ true }
-        requires search { Searches mode item.now self.old found.old
-            (still_open mode item.now.program self.old) }
-        requires few { found.old.part.tried ≤ limit }
+        requires ready { IsToSearch mode item.now limit self.old found.old }
         ensures path { IsPath item.now.program self.new }
-        ensures search { let p = item.now.program in OnOk result (GoesOn mode item.now
-            self.old found.old (still_open mode p self.old)
-            self.new found.new (still_open mode p self.new)) }
-        ensures few { OnOk result (found.new.part.tried ≤ limit) }
-        ensures all { OnOk result (found.new.part.tried < limit
-            → still_open mode item.now.program self.new ≡ []) }
+        ensures searched { OnOk result
+            (HasSearched mode item.now limit self.old found.old self.new found.new) }
     {
         match mode {
             Mode::Bounded(_) => unreachable!(),
             Mode::Reduced => unreachable!(),
-            Mode::BoundedOnce(bound) => {
-                self.search_in(alloc, found, item, Mode::BoundedOnce(bound), limit)
-            }
-            Mode::ReducedOnce => self.search_in(alloc, found, item, Mode::ReducedOnce, limit),
-        }
-    }
-
-    // The one search or the other, by the mode.
-    #[inline(always)]
-    fn search_by_mode(
-        &mut self,
-        alloc: Global,
-        found: &mut Found,
-        item: &Item,
-        mode: Mode,
-        limit: u64,
-    ) -> Result<(), AllocError>
-        requires search { Searches mode item.now self.old found.old
-            (still_open mode item.now.program self.old) }
-        requires few { found.old.part.tried ≤ limit }
-        ensures path { IsPath item.now.program self.new }
-        ensures search { let p = item.now.program in OnOk result (GoesOn mode item.now
-            self.old found.old (still_open mode p self.old)
-            self.new found.new (still_open mode p self.new)) }
-        ensures few { OnOk result (found.new.part.tried ≤ limit) }
-        ensures all { OnOk result (found.new.part.tried < limit
-            → still_open mode item.now.program self.new ≡ []) }
-    {
-        match mode {
-            Mode::Bounded(_) => self.search(alloc, found, item, mode, limit),
-            Mode::Reduced => self.search(alloc, found, item, mode, limit),
-            Mode::BoundedOnce(_) => self.search_once(alloc, found, item, mode, limit),
-            Mode::ReducedOnce => self.search_once(alloc, found, item, mode, limit),
+            Mode::BoundedOnce(_) => self.search_in(alloc, found, item, mode, limit),
+            Mode::ReducedOnce => self.search_in(alloc, found, item, mode, limit),
         }
     }
 
@@ -683,33 +654,56 @@ impl Path {
         Ok(())
     }
 
-    // Goes to the node of an item's prefix, at which the walk begins: the item's mask sleeps there,
-    // no step is to be tried yet, and the walk won't backtrack to the frames that there are.
-    fn seek(&mut self, item: &Item) -> Result<(), AllocError>
-        requires { IsPath item.now.program self.old }
+    // Begins the walk of an item at the node before the last step of its prefix, in a mode with a
+    // bound. This step alone is to be tried from there, so that the search takes it with its run.
+    // False where it passes the bound.
+    fn begin_at_parent(
+        &mut self,
+        found: &mut Found,
+        item: &Item,
+        mode: Mode,
+    ) -> Result<bool, AllocError>
+        requires path { IsPath item.now.program self.old }
+        requires sound { IsSummary found.old.part }
+        requires bound { has_bound mode ≡ true }
+        requires some { 0 < length item.now.prefix }
         ensures path { IsPath item.now.program self.new }
-        ensures place { OnOk result (IsPlace item.now.program self.new) }
-        ensures item { OnOk result (here item.now.program self.new ≡ item.now) }
-        ensures base { OnOk result (self.new.base ≡ length (used_frames self.new)) }
-        ensures todo { OnOk result (self.new.node.todo ≡ no_threads) }
+        ensures begun { IfOk result (Begins mode item.now found.old self.new found.new) }
     {
-        self.replay(item.program(), item.prefix())?;
-        self.node.asleep = item.mask();
-        self.node.todo = Mask::empty();
-        self.base = self.depth;
-        Ok(())
+        let prefix = item.prefix();
+        let place = prefix.len() - 1;
+        let last = prefix[place];
+        self.replay(item.program(), &prefix[..place])?;
+        self.node.todo = Mask::empty().with(last, true);
+        found.set_shared(&self.steps);
+        let mut node = self.node;
+        node.step(self.machine.enabled(), last, Mask::empty());
+        Ok(!node.is_past_bound(mode))
     }
 
-    // Whether the node has more preemptions than the bound; false in the mode without a bound.
-    fn is_past_bound(&self, mode: Mode) -> bool
-        ensures { result ≡ is_past_here mode self.now.node }
+    // Begins the walk of an item: sets what is to be tried first. False where the item's own prefix
+    // has more preemptions than the bound. A node that is expanded here has no step that passes the
+    // bound: there is no bound, or it is the root.
+    fn begin(
+        &mut self,
+        alloc: Global,
+        found: &mut Found,
+        item: &Item,
+        mode: Mode,
+    ) -> Result<bool, AllocError>
+        requires path { IsPath item.now.program self.old }
+        requires sound { IsSummary found.old.part }
+        ensures path { IsPath item.now.program self.new }
+        ensures begun { IfOk result (Begins mode item.now found.old self.new found.new) }
     {
-        match mode {
-            Mode::Bounded(bound) => self.node.used > bound,
-            Mode::BoundedOnce(bound) => self.node.used > bound,
-            Mode::Reduced => false,
-            Mode::ReducedOnce => false,
+        if has_parent(item, mode) {
+            return self.begin_at_parent(found, item, mode);
         }
+        self.replay(item.program(), item.prefix())?;
+        self.node.asleep = item.mask();
+        found.set_shared(&self.steps);
+        self.expand(alloc, found, item, mode)?;
+        Ok(true)
     }
 
     /// Tries the first schedules of an item, at most `quota`, and adds them, the items that it
@@ -732,15 +726,11 @@ impl Path {
     {
         let _ends = found.part.ends();
         let limit = found.part.tried() + u64::from(quota);
-        self.seek(item)?;
-        if self.is_past_bound(mode) {
+        if !self.begin(alloc, found, item, mode)? {
             found.part.set_beyond();
             return Ok(());
         }
-        found.set_shared(&self.steps);
-        self.run_last_thread_if_alone(found, item, mode)?;
-        self.expand(alloc, found, item, mode)?;
-        self.search_by_mode(alloc, found, item, mode, limit)?;
+        self.search(alloc, found, item, mode, limit)?;
         self.drain(alloc, item, mode, &mut found.rest)
     }
 }

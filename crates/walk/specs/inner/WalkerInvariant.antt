@@ -4,8 +4,9 @@ use Rattle.semantics_machine.specs.declared.machine.Run.{Run}
 use Rattle.guest_code.specs.Program.{Program}
 use Rattle.semantics.specs.{Machine.is_enabled, Mask.{has, HasEnabled, members_from, one_if}}
 use Rattle.semantics.specs.declared.mask.Mask.{Mask}
-use Rattle.walk_items.specs.{Children.{child_of, children_of, cost_of, costs, is_hidden_after}, Items.ItemView}
-use Rattle.walk_items.specs.{Walks.{IsWalked, items_at, listed_if}, declared.mode.Mode.Mode}
+use Rattle.walk_items.specs.{Children.{child_of, children_of, cost_of, costs, is_hidden_after}, Items.{ItemView, IsItem}}
+use Rattle.walk_items.specs.Walks.{IsWalked, IsWithin, IsPastBound, items_at, listed_if}
+use Rattle.walk_items.specs.declared.mode.Mode.{Mode}
 use Rattle.walk_items.specs.declared.mode.Mode.TheVariants.{Bounded, Reduced, BoundedOnce, ReducedOnce}
 use Rattle.walk.specs.declared.{found.Found.Found, path.Frame.Frame, path.Node.Node, path.Path.Path}
 use Rattle.walk.specs.inner.Paths.{used_frames, is_preempting, frame_at, state_at, IsPath, ReachesNode}
@@ -113,6 +114,43 @@ abbrev pub GoesOn : Mode → ItemView → Path → Found → List ItemView → P
 GoesOn mode i t f open_items u g others =
     (before : Found) → IsSearch before mode i t f open_items → IsSearch before mode i u g others
 
+-- a search, up to so many schedules, can begin
+pub record IsToSearch (mode : Mode) (i : ItemView) (limit : ℕ) (t : Path) (f : Found)
+    : Type 0 where
+  pub search : Searches mode i t f (still_open mode i.program t)
+  pub few : f.part.tried ≤ limit
+
+-- and goes on until there are so many, or nothing is open
+pub record HasSearched (mode : Mode) (i : ItemView) (limit : ℕ) (t : Path) (f : Found) (u : Path)
+    (g : Found) : Type 0 where
+  pub search : GoesOn mode i t f (still_open mode i.program t) u g (still_open mode i.program u)
+  pub few : g.part.tried ≤ limit
+  pub all : g.part.tried < limit → still_open mode i.program u ≡ []
+
+-- a walk can begin after these steps
+pub record IsSought (p : Program) (w : List ℕ) (t : Path) : Type 0 where
+  pub place : IsPlace p t
+  pub steps : t.steps.items ≡ w
+  pub base : t.base ≡ length (used_frames t)
+
+-- a walk of an item within the bound has begun
+pub record HasBegun (mode : Mode) (i : ItemView) (old : Found) (t : Path) (new : Found)
+    : Type 0 where
+  pub within : IsWithin mode i
+  pub search : IsSearch old mode i t new (still_open mode i.program t)
+  pub tried : new.part.tried ≤ old.part.tried + 1
+
+-- the item is past the bound, and nothing was found
+pub record IsPast (mode : Mode) (i : ItemView) (old new : Found) : Type 0 where
+  pub item : IsItem i
+  pub past : IsPastBound mode i
+  pub same : new ≡ record old { shared = new.shared }
+
+-- the one or the other
+abbrev pub Begins : Mode → ItemView → Found → Path → Found → Bool → Type 0
+Begins mode i old t new true = HasBegun mode i old t new
+Begins mode i old t new false = IsPast mode i old new
+
 -- more turns than are still to be taken
 unfoldable pub turns_left : Mode → Program → Path → ℕ
 turns_left mode p t = costs (still_open mode p t) + length (used_frames t)
@@ -181,6 +219,13 @@ at_bound (Bounded bound) n = nat_eq n.used bound
 at_bound Reduced n = false
 at_bound (BoundedOnce bound) n = nat_eq n.used bound
 at_bound ReducedOnce n = false
+
+-- whether a mode has a bound
+abbrev pub has_bound : Mode → Bool
+has_bound (Bounded bound) = true
+has_bound Reduced = false
+has_bound (BoundedOnce bound) = true
+has_bound ReducedOnce = false
 
 -- whether equal threads are tried once
 abbrev pub is_once : Mode → Bool

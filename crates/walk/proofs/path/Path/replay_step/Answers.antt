@@ -21,8 +21,8 @@ returns-then-place-eq1-clause-steps c =
     c.in_ok-extend.field-0 c.in_ok-extend.ensures.extended c.requires.steps c.requires.place)
     c.push_frame.ensures.pushed
 
-pub returns-else-place-schedule-clause-steps : goal.returns-else-place-schedule-clause-steps
-returns-else-place-schedule-clause-steps c =
+pub returns-else-place-eq1-clause-steps : goal.returns-else-place-eq1-clause-steps
+returns-else-place-eq1-clause-steps c =
     way_more c.args.program.now c.args.self.now c.extend.new.self c.args.schedule.now c.args.place
     c.empty.result c.in_ok-extend.field-0 c.in_ok-extend.ensures.extended c.requires.steps
     c.requires.place

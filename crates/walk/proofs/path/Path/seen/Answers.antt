@@ -1,4 +1,4 @@
-use Rattle.std.proofs.Common.{◌≡◌, ◌∙◌, ◌&&◌, ℕ, not, Option, None, sym, ap, subst}
+use Rattle.std.proofs.Common.{◌≡◌, ◌∙◌, ◌&&◌, ℕ, not, Option, sym, ap, subst}
 use Rattle.semantics.specs.Mask.{has}
 use Rattle.semantics_schedules.specs.EqualThreads.{is_hidden}
 use Rattle.walk_items.specs.{Children.is_hidden_after, declared.mode.Mode.Mode}

@@ -13,7 +13,7 @@ use Rattle.walk.specs.inner.WalkerInvariant.{left_above, here, item_of, runs_on,
 use Rattle.walk.specs.inner.WalkerInvariant.{IsShared, HasPut}
 use Rattle.walk.proofs.{Expansions.search_enabled, LoneSteps.{or_left, left_so}, WalkTurns.and_true}
 use Rattle.walk.proofs.RunWalks.{along_begun, along_next, along_falls, same_path, run_further}
-use Rattle.walk.proofs.RunWalks.{more_at, node_at, on_at, among_at, of_at, bound_at, alone_at}
+use Rattle.walk.proofs.RunWalks.{more_at, node_at, on_at, among_at, of_at, alone_at}
 use Rattle.walk.proofs.RunWalks.{noted_all, run_searched, run_falls}
 use Rattle.walk.proofs.path.Path.take_run.Goals.{After-runs_on}
 use Rattle.walk.proofs.path.Path.take_run.Goals as goal
