@@ -205,25 +205,19 @@ impl Book {
             ≡ drop (length self.now.open_items - ROUND) self.now.open_items) }
     {
         let mut items = Vec::new(alloc);
-        self.open_items
-            .clone_last_into(alloc, self.of.shared_program(), ROUND, &mut items)?;
+        self.next_round(alloc, &mut items)?;
         Ok(items)
     }
 
-    /// Replaces `items`, which have to be of the same program, by the book's next round: copies of
-    /// the last open items, at most `ROUND`, in their order. The memory of `items` serves copies of
-    /// packed items. `settle_all` then begins to look where these items stand; no contract says so.
-    /// Fails where memory runs out. The book is as before then, and `items` has some items of the
-    /// program, not the round.
-    pub fn next_round(&mut self, alloc: Global, items: &mut Vec<Item>) -> Result<(), AllocError>
-        requires { AreOf self.old.of.program items.old.items }
+    /// Replaces `items`, which have to be of the same program, by the book's next round. The memory
+    /// of `items` serves copies of packed items. Fails where memory runs out. `items` has some items
+    /// of the program then, not the round.
+    pub fn next_round(&self, alloc: Global, items: &mut Vec<Item>) -> Result<(), AllocError>
+        requires { AreOf self.now.of.program items.old.items }
         ensures items { OnOk result (items.new.items
-            ≡ drop (length self.old.open_items - ROUND) self.old.open_items) }
-        ensures program { AreOf self.old.of.program items.new.items }
-        ensures book { self.new ≡ self.old }
+            ≡ drop (length self.now.open_items - ROUND) self.now.open_items) }
+        ensures program { AreOf self.now.of.program items.new.items }
     {
-        let first = self.open_items.len().saturating_sub(ROUND);
-        self.open_items.set_hint(first);
         self.open_items
             .clone_last_into(alloc, self.of.shared_program(), ROUND, items)
     }
@@ -351,8 +345,7 @@ impl Book {
     /// Settles at once what walks found of items of the book's last round, in the book's mode: of
     /// the items `items[k]`, for each k of `places` in turn. Answers whether the walks were
     /// settled. They aren't where the items aren't open in that order, or where the book lists
-    /// deferred prefixes and `found` doesn't. All items have to be of the book's program. Packed
-    /// ones are unpacked when the round's first walks are settled, which no contract says. The
+    /// deferred prefixes and `found` doesn't. All items have to be of the book's program. The
     /// memory of `found` serves later walks. Fails where memory runs out. The book and `found` are
     /// as before then, and also where the walks aren't settled.
     pub fn settle_all(

@@ -27,8 +27,6 @@ use walk_prefixes::{Prefixes, is_later};
 pub(crate) struct ItemList {
     packed: Prefixes,
     unpacked: VecDeque<Item>,
-    // The index in `unpacked` from which on an item is looked for first.
-    hint: usize,
 }
 
 impl Model for ItemList {
@@ -58,7 +56,6 @@ impl ItemList {
         ItemList {
             packed: Prefixes::new(alloc),
             unpacked: VecDeque::new(alloc),
-            hint: 0,
         }
     }
 
@@ -153,8 +150,8 @@ impl ItemList {
         self.packed.position(item.prefix())
     }
 
-    // Unpacks the packed items from a place on, if any; `unpack_and_find` then looks there first.
-    // Where memory runs out, some of them may be unpacked.
+    // Unpacks the packed items from a place on, if any. Where memory runs out, some of them may be
+    // unpacked.
     pub(crate) fn unpack_from(
         &mut self,
         alloc: Global,
@@ -173,8 +170,8 @@ impl ItemList {
         Ok(())
     }
 
-    // Unpacks the last packed item. It is the first unpacked one then, and `unpack_and_find` looks
-    // from there on first. Where memory runs out, the list is as before.
+    // Unpacks the last packed item. It is the first unpacked one then. Where memory runs out, the
+    // list is as before.
     fn unpack_last(&mut self, alloc: Global, program: &Arc<Program>) -> Result<(), AllocError>
         requires some { 0 < length self.old.packed }
         requires run { All IsItem (items_at (arc_value program.now) self.old.packed) }
@@ -186,7 +183,6 @@ impl ItemList {
         let item = last_item(alloc, program, &self.packed)?;
         self.unpacked.push_front(item)?;
         self.packed.pop();
-        self.hint = 0;
         Ok(())
     }
 
@@ -197,19 +193,10 @@ impl ItemList {
         self.packed.len()
     }
 
-    // Sets the place in the list from which on `unpack_and_find` looks for items first. For the
-    // place of a packed item it is that of the first unpacked one.
-    pub(crate) fn set_hint(&mut self, place: usize)
-        ensures { self.new ≡ self.old }
-    {
-        self.hint = place.saturating_sub(self.packed.len());
-    }
-
     // Finds in the list, in this order, the items `items[k]` of a round, for each k of `places`.
     // Answers the place of each as it is once those found before it are removed; `None` where the
-    // list doesn't have them in this order. Looks among the unpacked items from the hint on; then,
-    // with the last `ROUND` items of the list unpacked, again; then, with all unpacked, from the
-    // first item on.
+    // list doesn't have them in this order. Looks among the unpacked items with the last `ROUND`
+    // items of the list unpacked; where they aren't there in this order, again with all unpacked.
     pub(crate) fn unpack_and_find(
         &mut self,
         alloc: Global,
@@ -230,25 +217,19 @@ impl ItemList {
         ensures unpacked { IfOk result (λ o. IfSome o (λ v.
             All (λ k. length self.new.packed ≤ k) v.items)) }
     {
-        if let Some(found) = self.find_from(alloc, self.hint, items, places)? {
-            return Ok(Some(found));
-        }
         let first = self.len().saturating_sub(ROUND);
         self.unpack_from(alloc, program, first)?;
-        if let Some(found) = self.find_from(alloc, self.hint, items, places)? {
+        if let Some(found) = self.find_in_order(alloc, items, places)? {
             return Ok(Some(found));
         }
         self.unpack_from(alloc, program, 0)?;
-        self.find_from(alloc, 0, items, places)
+        self.find_in_order(alloc, items, places)
     }
 
-    // Finds among the unpacked items from the index `first` on, in this order, the items `items[k]`
-    // of a round, for each k of `places`. Answers the place in the list of each as it is once those
-    // found before it are removed; `None` where they aren't there in this order.
-    fn find_from(
+    // Finds as `unpack_and_find` does, but among the items that are unpacked alone.
+    fn find_in_order(
         &self,
         alloc: Global,
-        first: usize,
         items: &[Item],
         places: &[usize],
     ) -> Result<Option<Vec<usize>>, AllocError>
@@ -256,14 +237,14 @@ impl ItemList {
         requires program { (p : Program) × AreOf p self.now.unpacked × AreOf p items.now }
         ensures there { (p : Program) → IfOk result (λ o. IfSome o (λ v.
             AreOpenAt (all_of p self.now) items.now places.now v.items)) }
-        ensures none { first ≡ 0 → IfOk result (λ o. IfNone o
+        ensures none { IfOk result (λ o. IfNone o
             (StandInOrder self.now.unpacked items.now places.now → ⊥)) }
         ensures unpacked { IfOk result (λ o. IfSome o (λ v.
             All (λ k. length self.now.packed ≤ k) v.items)) }
     {
         let packed = self.packed.len();
         let mut found = Vec::with_capacity(alloc, places.len())?;
-        let mut start = first.min(self.unpacked.len());
+        let mut start = 0;
         for k in 0..places.len() {
             let Some(place) = position_from(&self.unpacked, start, &items[places[k]]) else {
                 return Ok(None);
@@ -392,7 +373,6 @@ impl ItemList {
             then drop (length (all_of p self.old) - most) (all_of p self.old) else []) }
     {
         other.clear();
-        self.hint = 0;
         let unpacked = self.unpacked.len();
         if most <= unpacked {
             other.unpacked = self.unpacked.split_off(unpacked - most)?;
@@ -418,10 +398,9 @@ impl ItemList {
         Ok(())
     }
 
-    // Whether another list of this program has the same items in the same order. Equal bytes are
-    // equal packed items, but the same items may be packed in different bytes, or be unpacked in
-    // one list alone. So, where bytes or unpacked items differ, it compares unpacked copies of all
-    // items.
+    // Whether another list of this program has the same items in the same order. The same items may
+    // be packed in different bytes, or be unpacked in one list alone. So, where bytes or unpacked
+    // items differ, it compares unpacked copies of all items.
     pub(crate) fn has_same_items(
         &self,
         alloc: Global,
@@ -454,7 +433,6 @@ impl ItemList {
     {
         self.packed.clear();
         self.unpacked.clear();
-        self.hint = 0;
     }
 
     // Keeps the list's first items, at most `length`, and drops the others. Takes no memory.
@@ -467,7 +445,7 @@ impl ItemList {
     }
 
     // Drops the items whose schedules all come after this schedule, and answers how many. Takes no
-    // memory. The hint goes back by the number of unpacked ones, since up to as many were before it.
+    // memory.
     pub(crate) fn drop_later(&mut self, schedule: &[u8]) -> u64
         ensures items { (p : Program) → all_of p self.new ≡
             filter (λ i. not (is_later schedule.now i.prefix)) (all_of p self.old) }
@@ -476,8 +454,7 @@ impl ItemList {
     {
         let before = self.packed.len() + self.unpacked.len();
         let _packed = self.packed.remove_later(schedule);
-        let number = remove_later(&mut self.unpacked, schedule);
-        self.hint = self.hint.saturating_sub(number);
+        remove_later(&mut self.unpacked, schedule);
         (before - (self.packed.len() + self.unpacked.len())) as u64
     }
 }
@@ -544,8 +521,7 @@ fn has_item_at(items: &VecDeque<Item>, place: usize, item: &Item) -> bool
     same_steps(other.prefix(), item.prefix()) && same_masks(other.mask(), item.mask())
 }
 
-// Whether two queues of items of one program have equal items at all places. As the programs are
-// equal, only prefixes and sleeping threads are compared.
+// Whether two queues of items of one program have equal items at all places.
 fn same_items(first: &VecDeque<Item>, second: &VecDeque<Item>) -> bool
     requires { (p : Program) × AreOf p first.now.items × AreOf p second.now.items }
     ensures { IsTrue result ↔ (first.now.items ≡ second.now.items) }
@@ -568,15 +544,10 @@ fn same_steps(first: &[u8], second: &[u8]) -> bool
     first == second
 }
 
-// Removes the items of a queue whose schedules all come after this schedule, by `is_later`, and
-// answers how many.
-fn remove_later(items: &mut VecDeque<Item>, schedule: &[u8]) -> usize
-    ensures items { items.new.items ≡
+// Removes the items of a queue whose schedules all come after this schedule, by `is_later`.
+fn remove_later(items: &mut VecDeque<Item>, schedule: &[u8])
+    ensures { items.new.items ≡
         filter (λ i. not (is_later schedule.now i.prefix)) items.old.items }
-    ensures number { result ≡
-        count_by (λ i. is_later schedule.now i.prefix) items.old.items }
 {
-    let before = items.len();
     items.retain(|item| !is_later(schedule, item.prefix()));
-    before - items.len()
 }

@@ -2,9 +2,7 @@
 //! that are deferred to the next bound.
 //!
 //! - A [`books::Book`] splits all schedules of an item, the root of a program or one under which is
-//!   searched: its type keeps that the item's sum is what is finished joined with the sums of the
-//!   open items, that nothing is counted that was not tried, and that no schedule lies under two
-//!   items.
+//!   searched. The functions of [`laws`] say what its type means for the schedules of the program.
 //! - [`books::Book::settle`] enters a walk of an open item, [`books::Book::raise`] goes to
 //!   the next bound, [`books::Book::whole_summary`] answers the sum where nothing is left to walk.
 //! - A [`lending::LendingBook`] lends open items to workers, each of which has a [`loan::Loan`],
@@ -12,13 +10,12 @@
 //! - [`progress::Progress`] says how far the search of a book is.
 //! - A quick book may drop open items that can't hold the first bad schedule; what it finds has no
 //!   greater counts than the program's summary, and the same first bad schedule.
-//!
-//! The crate `book_laws` says what a book's type means for the schedules of its program.
 #![tactic(auto)]
 
 pub mod books;
 pub mod errors;
 mod item_list;
+pub mod laws;
 pub mod lending;
 pub mod limits;
 pub mod loan;

@@ -1,5 +1,0 @@
-use Rattle.book.proofs.BoundedSums.{thinned_bounded}
-use Rattle.book_laws.proofs.dropping_leaves_a_lower_bound.Goals as goal
-
-pub returns : goal.returns
-returns c = λ b t. thinned_bounded b t

@@ -1,5 +1,0 @@
-use Rattle.book.proofs.BoundedSums.{thinned_found}
-use Rattle.book_laws.proofs.dropping_needs_a_bad_one.Goals as goal
-
-pub returns : goal.returns
-returns c = λ b t. let r = thinned_found b t in (t.first, t.found, r.0, r.1)
