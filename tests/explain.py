@@ -61,6 +61,7 @@ CASES = [
     (HERE, "dirty_cow.guest", [], 1, "dirty_cow.txt"),
     (HERE, "marked_cpp.guest", ["1,0x3"], 1, "marked_cpp.txt"),
     (HERE, "marked_m4.guest", [], 1, "marked_m4.txt"),
+    (HERE, "wide_lines.guest", ["0"], 1, "wide_lines.txt"),
     (HERE, "jdk_6801020.guest", [], 1, "jdk_6801020.txt"),
     (HERE, "k8s_62464.guest", [], 1, "k8s_62464.txt"),
     (HERE, "linux_pipe_both.guest", ["0x10,1x10,0x8"], 1, "linux_pipe_both.txt"),
