@@ -19,7 +19,7 @@ define HELP
   make quick      all that needs no proof: the tests, the commands that the documents show,
                   the list of wrong bodies, the budget of lines; in a copy whose path has a space; and what
                   `make shown` tries, where build/ctxbound is of these sources
-                    some ten minutes on four processors, up to 12 GB
+                    seven to eight processor minutes, up to 7 GB
   make check C=crate
                   proves one crate, over what earlier checks kept
                     at first 1 to 10 minutes and those of the crates below it, then seconds
@@ -109,7 +109,7 @@ try:
 	set -- "$$COMMAND" "$$name" $${SCHEDULE:+"$$SCHEDULE"}; \
 	test "$$COMMAND" != explore || set -- "$$@" --trace; $(TRY)
 
-# The crates with tests; those of up to four are run side by side.
+# The crates with tests: they are run beside the commands that are shown, each by a build of its own.
 TESTED = $(sort $(shell grep -rl --include=*.rt '^\#\[test\]' crates | cut -d/ -f2))
 
 # In a copy: its path has a space, and so has that of temporary files, so what isn't quoted fails.
