@@ -192,21 +192,19 @@ test:
 times:
 	@python3 tests/budget.py --times
 
-shown:
-	@$(NEEDS_PROGRAM)
-	python3 tests/docs.py "$(PROGRAM)"
-	python3 tests/commands.py "$(PROGRAM)" $(wildcard crates/ctxbound_first/out/ctxbound_first)
-	python3 tests/check.py "$(PROGRAM)"
-	python3 tests/explain.py "$(PROGRAM)"
-	python3 tests/simulator.py "$(PROGRAM)"
-	python3 tests/prefixes.py "$(PROGRAM)"
-	python3 tests/parts.py "$(PROGRAM)"
-	python3 tests/machines.py "$(PROGRAM)"
-	python3 tests/page.py "$(PROGRAM)"
-	python3 tests/symmetry.py "$(PROGRAM)"
-	python3 tests/around.py "$(PROGRAM)"
-	@test ! -x crates/tests_tools/out/tests_tools || python3 tests/rounds.py "$(PROGRAM)" crates/tests_tools/out/tests_tools
+# Each script by itself, so that `make quick` tries some at once. What workers do is tried where the tool for it is there.
+TOOLS = $(wildcard crates/tests_tools/out/tests_tools)
+SHOWN = docs commands check explain simulator prefixes parts machines page symmetry around $(TOOLS:%=rounds)
+
+shown: $(SHOWN:%=shown-%)
 	"$(PROGRAM)" suite examples
+
+BESIDE =
+shown-commands: BESIDE = $(wildcard crates/ctxbound_first/out/ctxbound_first)
+shown-rounds: BESIDE = $(TOOLS)
+shown-%:
+	@$(NEEDS_PROGRAM)
+	python3 tests/$*.py "$(PROGRAM)" $(BESIDE)
 
 # Small programs made at random, other ones each time.
 fuzz:
