@@ -19,7 +19,7 @@ define HELP
   make quick      all that needs no proof: the tests, the commands that the documents show,
                   the list of wrong bodies, the budget of lines; in a copy whose path has a space; and what
                   `make shown` tries, where build/ctxbound is of these sources
-                    some ten minutes on four processors, up to 12 GB
+                    seven to eight processor minutes, up to 7 GB
   make check C=crate
                   proves one crate, over what earlier checks kept
                     at first 1 to 10 minutes and those of the crates below it, then seconds
@@ -109,7 +109,7 @@ try:
 	set -- "$$COMMAND" "$$name" $${SCHEDULE:+"$$SCHEDULE"}; \
 	test "$$COMMAND" != explore || set -- "$$@" --trace; $(TRY)
 
-# The crates with tests; those of up to four are run side by side.
+# The crates with tests: they are run beside the commands that are shown, each by a build of its own.
 TESTED = $(sort $(shell grep -rl --include=*.rt '^\#\[test\]' crates | cut -d/ -f2))
 
 # In a copy: its path has a space, and so has that of temporary files, so what isn't quoted fails.
@@ -192,21 +192,19 @@ test:
 times:
 	@python3 tests/budget.py --times
 
-shown:
-	@$(NEEDS_PROGRAM)
-	python3 tests/docs.py "$(PROGRAM)"
-	python3 tests/commands.py "$(PROGRAM)" $(wildcard crates/ctxbound_first/out/ctxbound_first)
-	python3 tests/check.py "$(PROGRAM)"
-	python3 tests/explain.py "$(PROGRAM)"
-	python3 tests/simulator.py "$(PROGRAM)"
-	python3 tests/prefixes.py "$(PROGRAM)"
-	python3 tests/parts.py "$(PROGRAM)"
-	python3 tests/machines.py "$(PROGRAM)"
-	python3 tests/page.py "$(PROGRAM)"
-	python3 tests/symmetry.py "$(PROGRAM)"
-	python3 tests/around.py "$(PROGRAM)"
-	@test ! -x crates/tests_tools/out/tests_tools || python3 tests/rounds.py "$(PROGRAM)" crates/tests_tools/out/tests_tools
+# Each script by itself, so that `make quick` tries some at once. What workers do is tried where the tool for it is there.
+TOOLS = $(wildcard crates/tests_tools/out/tests_tools)
+SHOWN = docs commands check explain simulator prefixes parts machines page symmetry around $(TOOLS:%=rounds)
+
+shown: $(SHOWN:%=shown-%)
 	"$(PROGRAM)" suite examples
+
+BESIDE =
+shown-commands: BESIDE = $(wildcard crates/ctxbound_first/out/ctxbound_first)
+shown-rounds: BESIDE = $(TOOLS)
+shown-%:
+	@$(NEEDS_PROGRAM)
+	python3 tests/$*.py "$(PROGRAM)" $(BESIDE)
 
 # Small programs made at random, other ones each time.
 fuzz:

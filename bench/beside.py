@@ -4,12 +4,10 @@
 For each search it prints the least seconds of RUNS runs (7) by BINARY and, where OTHER is given, by
 another explorer with the same words, and their ratio. The two run in turn and must give the same answer.
 """
-import os
-import subprocess
 import sys
-import time
 
-HERE = os.path.dirname(os.path.abspath(__file__))
+from measured import ROOT, timed
+
 SEARCHES = [
     ("long_runs", "explore --bound 3"), ("barrier", "explore --bound 4"),
     ("readers_writers", "explore --bound 3"), ("semaphore_ring", "explore --bound 2"),
@@ -21,22 +19,14 @@ SEARCHES = [
 ]
 
 
-def timed(binary, name, words):
-    command, *options = words.split()
-    began = time.perf_counter()
-    done = subprocess.run([binary, command, os.path.join(HERE, "programs", name + ".guest")] + options,
-                          capture_output=True)
-    return time.perf_counter() - began, done.stdout
-
-
 def main(binaries, runs):
     print("%-16s %-20s %9s %9s %6s" % ("guest", "search", "seconds", "other", "ratio"))
     for name, words in SEARCHES:
         least = [float("inf")] * len(binaries)
         for _ in range(runs):
-            results = [timed(binary, name, words) for binary in binaries]
-            least = [min(old, seconds) for old, (seconds, _) in zip(least, results)]
-        if len({answer for _, answer in results}) > 1:
+            results = [timed(binary, *words.split(), ROOT / "bench/programs" / (name + ".guest")) for binary in binaries]
+            least = [min(old, seconds) for old, (_, seconds) in zip(least, results)]
+        if len({answer for answer, _ in results}) > 1:
             sys.exit("%s %s: the answers differ" % (name, words))
         other = "%9.3f %6.2f" % (least[1], least[0] / least[1]) if len(least) > 1 else ""
         print("%-16s %-20s %9.3f %s" % (name, words, least[0], other), flush=True)
@@ -47,4 +37,4 @@ if __name__ == "__main__":
     runs = int(words.pop()) if words and words[-1].isdigit() else 7
     if not 1 <= len(words) <= 2:
         sys.exit(__doc__)
-    main([os.path.abspath(word) for word in words], runs)
+    main(words, runs)

@@ -8,12 +8,12 @@ bytes. At last four workers of one process, to compare.
 """
 import os
 import resource
-import subprocess
 import sys
 import time
 from concurrent.futures import ThreadPoolExecutor
 
-TOP = os.path.dirname(os.path.dirname(os.path.abspath(__file__)))
+from measured import ROOT, cases, timed
+
 GUESTS = [("four_by_five.guest", "7"), ("programs/lottery.guest", "2")]
 COUNTS = (16, 100, 1000, 4000)
 PROCESSES = 4
@@ -24,47 +24,37 @@ def spent():
     return used.ru_utime + used.ru_stime
 
 
-def timed(call):
-    """What a call answers, its seconds by the clock, and those of processors in children."""
-    began, before = time.perf_counter(), spent()
-    answer = call()
-    return answer, time.perf_counter() - began, spent() - before
-
-
-def run(*words, text=None):
-    done = subprocess.run(words, input=text, capture_output=True)
-    if done.returncode not in (0, 1):
-        sys.exit("%s ended with status %d" % (" ".join(words), done.returncode))
-    return done.stdout
-
-
 def parts(binary, guest, bound, prefixes):
-    under = lambda prefix: run(binary, "explore", guest, "--bound", bound, "--under", prefix)
+    """The lines of all parts, their seconds by the clock, and those of processors."""
+    under = lambda prefix: timed(binary, "explore", guest, "--bound", bound, "--under", prefix)[0]
+    began, before = time.perf_counter(), spent()
     with ThreadPoolExecutor(PROCESSES) as pool:
-        return b"".join(pool.map(under, prefixes))
+        lines = "".join(pool.map(under, prefixes))
+    return lines, time.perf_counter() - began, spent() - before
 
 
 def measure(binary, guest, bound):
     search = (binary, "explore", guest, "--bound", bound)
-    report, alone, processor = timed(lambda: run(*search))
+    before = spent()
+    report, alone = timed(*search)
+    processor = spent() - before
     print("%s, bound %s: one process %.2f s" % (os.path.basename(guest), bound, alone))
     for count in COUNTS:
-        listed, first, _ = timed(lambda: run(binary, "prefixes", guest, "--at-least", str(count)).decode().split())
-        lines, middle, more = timed(lambda: parts(binary, guest, bound, listed))
-        joined, last, _ = timed(lambda: run(binary, "join", guest, "--bound", bound, text=lines))
+        listed, first = timed(binary, "prefixes", guest, "--at-least", count)
+        lines, middle, more = parts(binary, guest, bound, listed.split())
+        joined, last = timed(binary, "join", guest, "--bound", bound, given=lines)
         if joined != report:
-            sys.exit("%s: another report of %d parts" % (guest, len(listed)))
+            sys.exit("%s: another report of %d parts" % (guest, len(listed.split())))
         print("%7d parts: %6.2f + %6.2f + %6.2f s, %5.2f times sooner, %5.2f times the processor time"
-              % (len(listed), first, middle, last, alone / (first + middle + last), more / processor))
-    _, four, _ = timed(lambda: run(*search, "--workers", str(PROCESSES)))
+              % (len(listed.split()), first, middle, last, alone / (first + middle + last), more / processor))
+    _, four = timed(*search, "--workers", PROCESSES)
     print("%d workers of one process: %.2f s, %.2f times sooner" % (PROCESSES, four, alone / four))
 
 
 def main():
     if len(sys.argv) < 2 or len(sys.argv) % 2:
         sys.exit(__doc__)
-    given = [(sys.argv[at], sys.argv[at + 1]) for at in range(2, len(sys.argv), 2)]
-    for guest, bound in given or [(os.path.join(TOP, "bench", guest), bound) for guest, bound in GUESTS]:
+    for guest, bound in cases(sys.argv[2:], [(str(ROOT / "bench" / guest), bound) for guest, bound in GUESTS]):
         measure(sys.argv[1], guest, bound)
 
 

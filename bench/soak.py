@@ -16,9 +16,8 @@ import sys
 import tempfile
 import time
 
-TOP = os.path.dirname(os.path.dirname(os.path.abspath(__file__)))
-sys.path.insert(0, os.path.join(TOP, "tests"))
-from reference import Maker  # noqa: E402  (the path has to be set first)
+from measured import ROOT
+from reference import Maker
 
 PROGRAMS = [("ticket_lock", 3), ("readers_writers", 2), ("semaphore_ring", 1), ("deep_locals", 3)]
 SECONDS = 10
@@ -54,7 +53,7 @@ def asked(chance, folder):
     """A search at random: its command and words, without the number of workers."""
     if chance.random() < 0.2:
         name, bound = chance.choice(PROGRAMS)
-        path = os.path.join(TOP, "bench", "programs", name + ".guest")
+        path = str(ROOT / "bench/programs" / (name + ".guest"))
     else:
         path, bound = os.path.join(folder, "program.guest"), chance.choice((0, 1, 2, 3, 64))
         with open(path, "w", encoding="ascii") as file:

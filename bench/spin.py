@@ -8,15 +8,13 @@ searched by it within a depth of 6 steps, twice: as it comes, and compiled with 
 Without Spin (`apt-get install spin`) and a C compiler it says so, and times BINARY alone.
 """
 import json
-import os
 import re
 import shutil
-import subprocess
 import sys
 import tempfile
-import time
 
-TOP = os.path.dirname(os.path.dirname(os.path.abspath(__file__)))
+from measured import ROOT, timed
+
 # A problem: its model, its guest, the words for the checker that Spin makes, and those for its compiler.
 PROBLEMS = [
     ("lock_order", "examples/lock_order.guest", [], []),
@@ -29,49 +27,45 @@ PROBLEMS = [
 
 def lines_of(path):
     """The lines of a text that are neither empty nor comments."""
-    with open(path, encoding="utf-8") as file:
-        text = re.sub(r"/\*.*?\*/|#[^\n]*", "", file.read(), flags=re.DOTALL)
+    text = re.sub(r"/\*.*?\*/|#[^\n]*", "", path.read_text(encoding="utf-8"), flags=re.DOTALL)
     return sum(1 for line in text.split("\n") if line.strip())
 
 
-def timed(words, folder):
-    began = time.perf_counter()
-    done = subprocess.run(words, cwd=folder, capture_output=True, text=True)
-    return done.stdout, time.perf_counter() - began
+def has_spin():
+    return shutil.which("spin") and shutil.which("cc")
 
 
-def by_spin(model, options, flags):
-    """The seconds of making, compiling and running the checker, those of running it, and its verdict."""
+def by_spin(name, options, flags):
+    """What the checker of a model prints, the seconds of making, compiling and running it, and those of running it."""
     with tempfile.TemporaryDirectory() as folder:
-        _, made = timed(["spin", "-a", model], folder)
-        _, compiled = timed(["cc", "-O2", "-w", "-o", "pan"] + flags + ["pan.c"], folder)
-        printed, ran = timed(["./pan"] + options, folder)
-    found = re.search(r"pan:1: (invalid end state|assertion violated)", printed)
-    return made + compiled + ran, ran, found.group(1) if found else "nothing"
+        steps = [timed(*words, cwd=folder) for words in (
+            ["spin", "-a", ROOT / "bench/spin" / (name + ".pml")], ["cc", "-O2", "-w", "-o", "pan", *flags, "pan.c"],
+            ["./pan", *options])]
+    return steps[-1][0], sum(seconds for _, seconds in steps), steps[-1][1]
 
 
 def by_ctxbound(binary, guest):
-    printed, seconds = timed([binary, "explore", guest], TOP)
+    printed, seconds = timed(binary, "explore", guest)
     report = json.loads(printed)
     return seconds, "%s, %s" % (report["kind"], report["schedule"]) if report["verdict"] == "bad" else "nothing"
 
 
 def main(binary):
-    has_spin = shutil.which("spin") and shutil.which("cc")
-    if not has_spin:
+    if not has_spin():
         print("Spin or a C compiler isn't here: ctxbound alone")
     print("%-22s %6s %9s %9s  %-20s %6s %9s  %s" % ("problem", "model", "seconds", "run", "Spin found",
                                                     "guest", "seconds", "ctxbound found"))
     for name, guest, options, flags in PROBLEMS:
-        model = os.path.join(TOP, "bench", "spin", name + ".pml")
-        whole, ran, found = by_spin(model, options, flags) if has_spin else (0, 0, "-")
-        seconds, answer = by_ctxbound(binary, os.path.join(TOP, guest))
+        printed, whole, ran = by_spin(name, options, flags) if has_spin() else ("", 0, 0)
+        found = re.search(r"pan:1: (invalid end state|assertion violated)", printed)
+        seconds, answer = by_ctxbound(binary, ROOT / guest)
         title = " ".join([name] + options + flags)
         print("%-22s %6d %9.2f %9.3f  %-20s %6d %9.3f  %s" % (
-            title[:22], lines_of(model), whole, ran, found, lines_of(os.path.join(TOP, guest)), seconds, answer))
+            title[:22], lines_of(ROOT / "bench/spin" / (name + ".pml")), whole, ran,
+            found.group(1) if found else "nothing" if printed else "-", lines_of(ROOT / guest), seconds, answer))
 
 
 if __name__ == "__main__":
     if len(sys.argv) != 2:
         sys.exit(__doc__)
-    main(os.path.abspath(sys.argv[1]))
+    main(sys.argv[1])

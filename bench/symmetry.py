@@ -8,15 +8,13 @@ compiler are here (`apt-get install spin`), the states that it stores of the mod
 seconds, without those of compiling.
 """
 import json
-import os
 import re
-import shutil
 import subprocess
 import sys
-import tempfile
-import time
 
-TOP = os.path.dirname(os.path.dirname(os.path.abspath(__file__)))
+from measured import ROOT, cases, timed
+from spin import by_spin, has_spin
+
 PROBLEMS = [
     ("bench/programs/twostage_7.guest", 1), ("bench/programs/memcached.guest", 2), ("bench/programs/four_equal.guest", 4),
     ("bench/programs/spin_equal.guest", 5), ("bench/programs/safestack_3.guest", 4), ("bench/programs/ticket_lock.guest", 4),
@@ -29,56 +27,41 @@ SECONDS = 60
 COUNTS = ("tried", "failed", "stuck", "symmetry")
 
 
-def timed(words):
-    """The report of a search and its seconds; no report where it takes too long."""
-    began = time.perf_counter()
-    try:
-        done = subprocess.run(words + ["--limit", str(LIMIT)], cwd=TOP, capture_output=True, timeout=SECONDS)
-    except subprocess.TimeoutExpired:
-        return None, SECONDS
-    return json.loads(done.stdout), time.perf_counter() - began
-
-
 def least(words):
     """The report of a search, if it came to its end; what it tried, and its least seconds, as the table shows them."""
     runs = []
     while len(runs) < RUNS:
-        report, seconds = timed(words)
-        if report is None:
+        try:
+            printed, seconds = timed(*words, "--limit", LIMIT, seconds=SECONDS)
+        except subprocess.TimeoutExpired:
             return None, "?", "over %d" % SECONDS
+        report = json.loads(printed)
         if report["verdict"] == "incomplete":
             return None, "over {:,}".format(LIMIT), "over %.0f" % seconds
         runs.append(seconds)
     return report, "{:,}".format(report["tried"]), "%.3f" % min(runs)
 
 
-def by_spin(name):
+def states(name):
     """The states that Spin stores of the model of a problem, and its seconds; nothing where there is no model, or no Spin."""
-    model = os.path.join(TOP, "bench/spin", name + ".pml")
-    if not os.path.exists(model) or not shutil.which("spin") or not shutil.which("cc"):
+    if not (ROOT / "bench/spin" / (name + ".pml")).exists() or not has_spin():
         return ["", ""]
-    with tempfile.TemporaryDirectory() as folder:
-        for words in (["spin", "-a", model], ["cc", "-O2", "-w", "-o", "pan", "pan.c"]):
-            subprocess.run(words, cwd=folder, capture_output=True, check=True)
-        began = time.perf_counter()
-        told = subprocess.run(["./pan", "-m100000"], cwd=folder, capture_output=True, text=True).stdout
-        seconds = time.perf_counter() - began
+    told, _, seconds = by_spin(name, ["-m100000"], [])
     return ["{:,}".format(int(re.search(r"(\d+) states, stored", told).group(1))), "%.3f" % seconds]
 
 
 def row(binary, guest, search):
     """A line of the table."""
-    name = os.path.basename(guest).removesuffix(".guest")
-    words = [binary, *search.split(), guest]
+    path = ROOT / guest
+    words = [binary, *search.split(), path]
     (plain, *all_shown), (found, *once_shown) = least(words), least(words + ["--symmetry"])
     fewer = "%.1f" % (plain["tried"] / found["tried"]) if plain and found else ""
     if fewer and any(plain[key] != found[key] for key in plain if key not in COUNTS):
         sys.exit("%s %s: the answers differ" % (search, guest))
-    with open(os.path.join(TOP, guest), encoding="utf-8") as file:
-        threads = len(re.findall(r"^thread ", file.read(), re.MULTILINE))
+    threads = len(re.findall(r"^thread ", path.read_text(encoding="utf-8"), re.MULTILINE))
     shown = search.replace("explore --bound", "bound")
-    spin = by_spin(name) if search == "unbounded" else ["", ""]
-    return "| " + " | ".join([name, str(threads), shown, *all_shown, *once_shown, fewer, *spin]) + " |"
+    spin = states(path.stem) if search == "unbounded" else ["", ""]
+    return "| " + " | ".join([path.stem, str(threads), shown, *all_shown, *once_shown, fewer, *spin]) + " |"
 
 
 def main(binary, problems):
@@ -92,4 +75,4 @@ def main(binary, problems):
 if __name__ == "__main__":
     if len(sys.argv) < 2 or len(sys.argv) % 2:
         sys.exit(__doc__)
-    main(os.path.abspath(sys.argv[1]), list(zip(sys.argv[2::2], sys.argv[3::2])) or PROBLEMS)
+    main(sys.argv[1], cases(sys.argv[2:], PROBLEMS))

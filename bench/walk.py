@@ -11,49 +11,20 @@ timed as well, and the ratio is of that one's time to OTHER's. Without guests it
 """
 import os
 import sys
-import tempfile
-import time
 
-TOP = os.path.dirname(os.path.dirname(os.path.abspath(__file__)))
-BINARY = os.path.join(TOP, "crates", "tests_tools", "out", "tests_tools")
-GUEST = os.path.join(TOP, "bench", "four_by_five.guest")
+from measured import ROOT, cases, used
+
+BINARY = str(ROOT / "crates/tests_tools/out/tests_tools")
+GUEST = str(ROOT / "bench/four_by_five.guest")
 RUNS = 5
 # From so many prefixes on, nearly all memory is theirs.
 MANY = 1000000
 
 
-def held(pid):
-    """The most memory that a process held so far, in bytes; none where the system doesn't say."""
-    try:
-        with open("/proc/%d/status" % pid) as status:
-            for row in status:
-                if row.startswith("VmHWM:"):
-                    return int(row.split()[1]) * 1024
-    except OSError:
-        pass
-    return 0
-
-
-def run(words):
-    """What a run writes, its user time in seconds, and the most memory that it was seen to hold."""
-    with tempfile.TemporaryFile() as file:
-        child = os.posix_spawn(words[0], words, os.environ,
-                               file_actions=[(os.POSIX_SPAWN_DUP2, file.fileno(), 1)])
-        most, ended = 0, 0
-        while not ended:
-            most = max(most, held(child))
-            time.sleep(0.001)
-            ended, status, usage = os.wait4(child, os.WNOHANG)
-        file.seek(0)
-        out = file.read()
-    if status != 0:
-        sys.exit("%s ended with status %d" % (" ".join(words), os.waitstatus_to_exitcode(status)))
-    return out, usage.ru_utime, most
-
-
 def least(words):
-    runs = [run(words) for _ in range(RUNS)]
-    return runs[0][0], min(seconds for _, seconds, _ in runs), max(memory for _, _, memory in runs)
+    """What a command writes, its least user time in seconds, and the most memory that it had, in bytes."""
+    runs = [used(*words) for _ in range(RUNS)]
+    return runs[0][0], min(own for _, own, _, _ in runs), max(most for _, _, _, most in runs) * 1024
 
 
 def other_words(other, guest, mode):
@@ -77,11 +48,10 @@ def line(guest, mode, other):
 
 def main(words):
     other = words[0] if words else None
-    cases = list(zip(words[1::2], words[2::2])) or [(GUEST, str(bound)) for bound in range(5)]
     head = "%-18s %8s %11s %9s %13s %11s %9s" % (
         "guest", "mode", "schedules", "seconds", "schedules/s", "deferred", "bytes/def")
     print(head + (" %9s %9s %6s" % ("unlisted", "other", "ratio") if other else ""))
-    for guest, mode in cases:
+    for guest, mode in cases(words[1:], [(GUEST, str(bound)) for bound in range(5)]):
         print(line(guest, mode, other), flush=True)
 
 

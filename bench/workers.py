@@ -14,9 +14,9 @@ import contextlib
 import os
 import subprocess
 import sys
-import time
 
-TOP = os.path.dirname(os.path.dirname(os.path.abspath(__file__)))
+from measured import ROOT, cases, least
+
 GUESTS = [("four_by_five.guest", "3"), ("four_by_five.guest", "4"),
           ("programs/lottery.guest", "0"), ("programs/coin_box.guest", "1"),
           ("programs/ballot.guest", "unbounded"), ("programs/coats.guest", "unbounded")]
@@ -27,28 +27,13 @@ BUSY_WORDS = ([], ["--limit", str(2**62)], ["--quick"])
 RUNS = 3
 
 
-def run(words):
-    """What a run writes, and its seconds by the clock."""
-    began = time.perf_counter()
-    done = subprocess.run(words, capture_output=True)
-    seconds = time.perf_counter() - began
-    if done.returncode not in (0, 1):
-        sys.exit("%s ended with status %d" % (" ".join(words), done.returncode))
-    return done.stdout, seconds
-
-
-def least(words):
-    runs = [run(words) for _ in range(RUNS)]
-    return runs[0][0], min(seconds for _, seconds in runs)
-
-
 def words_of(binary, guest, bound, workers):
     search = ["unbounded", guest] if bound == "unbounded" else ["explore", guest, "--bound", bound]
     return [binary] + search + ["--workers", str(workers)]
 
 
 def line(binary, guest, bound, numbers, more):
-    results = [least(words_of(binary, guest, bound, workers) + more) for workers in numbers]
+    results = [least(RUNS, *words_of(binary, guest, bound, workers), *more) for workers in numbers]
     report, alone = results[0]
     text = "%-18s %9s" % (os.path.basename(guest).removesuffix(".guest"), " ".join([bound] + more[:1]))
     for workers, (other, seconds) in zip(numbers, results):
@@ -73,13 +58,11 @@ def busy(count):
 def main(words):
     is_busy = words[0] == "--busy"
     binary, *named = words[is_busy:]
-    numbers, others = (BUSY_WORKERS, BUSY_WORDS) if is_busy else (WORKERS, [[]])
-    cases = list(zip(named[::2], named[1::2]))
-    cases = cases or [(os.path.join(TOP, "bench", name), bound) for name, bound in (BUSY_GUESTS if is_busy else GUESTS)]
+    numbers, others, guests = (BUSY_WORKERS, BUSY_WORDS, BUSY_GUESTS) if is_busy else (WORKERS, [[]], GUESTS)
     heads = " ".join("%9s" % n if n == 1 else "%9s %6s" % (n, "sooner") for n in numbers)
     print("%-18s %9s %s" % ("guest", "bound", heads))
     with busy(2 * os.cpu_count() if is_busy else 0):
-        for guest, bound in cases:
+        for guest, bound in cases(named, [(str(ROOT / "bench" / name), bound) for name, bound in guests]):
             for more in others:
                 print(line(binary, guest, bound, numbers, more), flush=True)
 

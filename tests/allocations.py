@@ -16,17 +16,11 @@ workers must make a thread for all but one of them, once for all rounds of a bou
 import json
 import os
 
-from program import Tester, refusing, run, run_refused
+from program import Tester, refusing, run, run_refused, stores
 
 MOST = 5000
 # So many runs in a row without a refusal end a sweep.
 QUIET = 5
-
-
-def stores(names):
-    """Threads of one step each, which all store to variables of their own."""
-    variables = "".join("var %s; " % name for name in names)
-    return variables + "".join("thread %s { store %s 1; } " % (name.upper(), name) for name in names)
 
 
 PROGRAMS = {

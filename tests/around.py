@@ -17,7 +17,7 @@ import shutil
 import time
 from pathlib import Path
 
-from program import EXAMPLES, ROOT, Tester, run
+from program import EXAMPLES, ROOT, Tester, guests, run
 from simulator import PARTS
 
 SHARE = ROOT / "share"
@@ -72,12 +72,6 @@ class Around(Tester):
     def run(self, words, **more):
         return run(words, **{"seconds": self.seconds, "env": self.environment, **more})
 
-    def has(self, tool, part):
-        if shutil.which(tool):
-            return True
-        self.left_out.append("%s (`%s` isn't there)" % (part, tool))
-        return False
-
     def help(self, *command):
         return self.run([self.binary, *command, "--help"]).err
 
@@ -92,7 +86,7 @@ class Around(Tester):
     # ---- the man page
 
     def man_page(self):
-        if not self.has("man", "the man page"):
+        if not self.has("man"):
             return
         done = self.run(["man", "--warnings", "-l", SHARE / "man" / "ctxbound.1"])
         self.expect("man warns", done.status == 0 and not done.err, done.err)
@@ -113,7 +107,7 @@ class Around(Tester):
 
     def completions(self, shell, ask):
         """Asks for a command, for the options of each, and for a file."""
-        if not self.has(shell, "completions for " + shell):
+        if not self.has(shell):
             return
         self.expect(shell + ": commands", set(self.commands()) <= ask(["ctxbound", ""]),
                    ask(["ctxbound", ""]))
@@ -195,7 +189,7 @@ class Around(Tester):
         grammar = json.loads((SHARE / "vscode" / entry["path"]).read_text())
         self.expect("the grammar's scope", grammar["scopeName"] == entry["scopeName"])
         patterns = [(re.compile(each["match"]), each["name"]) for each in grammar["patterns"]]
-        for path in guests():
+        for path in guests("examples", "examples/real"):
             odd = []
             for number, line in enumerate(path.read_text().split("\n"), 1):
                 found, place = [], 0
@@ -212,28 +206,35 @@ class Around(Tester):
                     odd.append((number, found, wanted))
             self.expect("TextMate: " + path.name, not odd, *odd[:3])
 
+    def has_vim(self, feature):
+        """Whether there is a Vim that has this, which small ones haven't."""
+        is_there = self.has("vim") and feature in self.run(["vim", "--version"]).out
+        self.left_out += ["vim's " + feature] * (not is_there)
+        return is_there
+
+    def by_vim(self, script, *lines, **more):
+        """Vim does what these lines say."""
+        script.write_text("\n".join([*lines, "qall!"]) + "\n")
+        self.run(["vim", "-n", "-i", "NONE", "-es", "-u", script], **more)
+
     def vim(self):
-        if not self.has("vim", "the syntax for Vim"):
-            return
-        if "+syntax" not in self.run(["vim", "--version"]).out:
-            self.left_out.append("the syntax for Vim (this `vim` has no syntax)")
+        if not self.has_vim("+syntax"):
             return
         folder = self.empty()
-        script, classes = folder / "script.vim", folder / "classes"
-        script.write_text("\n".join([
-            "set nocompatible",
+        classes = folder / "classes"
+        self.by_vim(
+            folder / "script.vim", "set nocompatible",
             "let &rtp = escape(%s, ' ,\\') . ',' . $VIMRUNTIME" % json.dumps(str(SHARE / "vim")),
             "filetype on", "syntax on", "let told = []",
-            "for file in %s" % json.dumps([str(path) for path in guests()]),
+            "for file in %s" % json.dumps([str(path) for path in guests("examples", "examples/real")]),
             "  execute 'edit' fnameescape(file)",
             "  for row in range(1, line('$'))",
             "    let names = map(range(1, len(getline(row))), 'synIDattr(synID(row, v:val, 1), \"name\")')",
             "    call add(told, join(names, ','))",
             "  endfor", "endfor",
-            "call writefile(told, %s)" % json.dumps(str(classes)), "qall!"]) + "\n")
-        self.run(["vim", "-n", "-i", "NONE", "-es", "-u", script])
+            "call writefile(told, %s)" % json.dumps(str(classes)))
         told = iter(classes.read_text().split("\n") if classes.exists() else [])
-        for path in guests():
+        for path in guests("examples", "examples/real"):
             odd = []
             for number, line in enumerate(path.read_text().split("\n")[:-1], 1):
                 names = next(told, "").split(",")
@@ -276,10 +277,7 @@ class Around(Tester):
 
     def vim_edits(self):
         """Vim's `:make` fills the quickfix list, and its indents leave each example as it is."""
-        if not self.has("vim", "the files for Vim"):
-            return
-        if "+quickfix" not in self.run(["vim", "--version"]).out:
-            self.left_out.append("the files for Vim (this `vim` has no quickfix list)")
+        if not self.has_vim("+quickfix"):
             return
         folder = self.empty()
         script, told, copy = (folder / name for name in ("script.vim", "told", "copy.guest"))
@@ -288,20 +286,17 @@ class Around(Tester):
         head = ["set nocompatible", "set rtp=%s,$VIMRUNTIME" % str(SHARE / "vim").replace(" ", "\\ "),
                 "filetype plugin indent on"]
         for file, line, column, severity in self.short_lines(folder):
-            script.write_text("\n".join(head + [
-                "execute 'edit' fnameescape(%s)" % json.dumps(file), "silent make",
+            self.by_vim(
+                script, *head, "execute 'edit' fnameescape(%s)" % json.dumps(file), "silent make",
                 "let all = filter(getqflist(), 'v:val.valid')",
                 "call writefile(map(all, 'v:val.lnum . \" \" . v:val.col . \" \" . v:val.type'), %s)"
-                % json.dumps(str(told)), "qall!"]) + "\n")
-            self.run(["vim", "-n", "-i", "NONE", "-es", "-u", script], env=environment)
+                % json.dumps(str(told)), env=environment)
             wanted = "%d %d %s\n" % (line, column, severity[0])
             self.expect("Vim's :make: " + severity, told.exists() and told.read_text() == wanted,
                        told.exists() and told.read_text(), wanted)
-        script.write_text("\n".join(head + ["execute 'edit' fnameescape(%s)" % json.dumps(str(copy)),
-                                            "normal gg=G", "write", "qall!"]) + "\n")
-        for path in guests():
+        for path in guests("examples", "examples/real"):
             copy.write_text(path.read_text())
-            self.run(["vim", "-n", "-i", "NONE", "-es", "-u", script])
+            self.by_vim(script, *head, "execute 'edit' fnameescape(%s)" % json.dumps(str(copy)), "normal gg=G", "write")
             self.expect("Vim's indents: " + path.name, copy.read_text() == path.read_text())
 
     # ---- the first runs, installation and archive
@@ -312,7 +307,7 @@ class Around(Tester):
     def first_runs(self):
         """`make run` and `make try` ask for what they should of a copy of any guest. In place of `rt try`, which
         compiles `ctxbound_first`, the program runs."""
-        if not self.has("make", "the first runs"):
+        if not self.has("make"):
             return
         example = EXAMPLES / "first.guest"
         folder = self.empty()
@@ -336,7 +331,7 @@ class Around(Tester):
                        .count("Compiling"), done.out)
 
     def installation(self):
-        if not self.has("make", "the installation"):
+        if not self.has("make"):
             return
         folder = self.empty()
         done = self.make("install", "DESTDIR=%s" % folder, "PREFIX=/usr")
@@ -362,7 +357,7 @@ class Around(Tester):
 
     def archive(self):
         """Makes the archive, unpacks it in an empty folder and runs its program there."""
-        if not self.has("make", "the archive"):
+        if not self.has("make"):
             return None
         done = self.make("dist")
         named = re.search(r"^The archive is (build/ctxbound-[0-9.]+-linux-x86_64\.tar\.gz)$", done.out, re.M)
@@ -415,7 +410,7 @@ class Around(Tester):
         self.workflow(folder, environment, blocks["yaml"], archive)
 
     def hook(self, there, environment, hook, guest, bad):
-        if not self.has("git", "the hook"):
+        if not self.has("git"):
             return
 
         def git(*words):
@@ -459,10 +454,6 @@ class Around(Tester):
         for test in (self.textmate, self.vim, self.problem_matcher, self.snippets, self.vim_edits, self.first_runs, self.installation):
             test()
         self.ci(self.archive())
-
-
-def guests():
-    return sorted(EXAMPLES.rglob("*.guest"))
 
 
 if __name__ == "__main__":

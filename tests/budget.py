@@ -10,9 +10,9 @@ the check wrote, so after a check with nothing kept (`rm -rf crates/*/out`, then
 its files.
 """
 import sys
-from pathlib import Path
 
-ROOT = Path(__file__).resolve().parent.parent
+from program import ROOT
+
 LIST = ROOT / "tests/budget.txt"
 KINDS = {"src": "*.rt", "specs": "*.antt", "proofs": "*.antt"}
 HEAD = """\

@@ -14,7 +14,7 @@ import pty
 import re
 import subprocess
 
-from program import ROOT, Tester, guests
+from program import ROOT, Tester, guests, schedule_of
 
 SHOWN = 92  # how many bytes of a line are shown
 
@@ -723,9 +723,8 @@ class Checks(Tester):
         text, _, _ = marked(DEEP[-1][0])
         _, err = self.run(text, "--deep")
         named = re.findall(r"replay: (\S+)$", err, re.M)
-        steps = [] if not named else re.sub(r"(\d+)x(\d+)", lambda m: ",".join([m[1]] * int(m[2])),
-                                            named[0]).split(",")
-        self.expect("W13: %s" % named, sorted(steps) == ["0", "0", "1", "1", "2"] and steps[-1] == "2", err)
+        steps = schedule_of(named[0]) if named else []
+        self.expect("W13: %s" % named, sorted(steps) == [0, 0, 1, 1, 2] and steps[-1] == 2, err)
 
     def in_order(self):
         """Warnings are in the order of the text, those of `--deep` among the others."""

@@ -12,7 +12,7 @@ import re
 import shlex
 import subprocess
 
-from program import EXAMPLES, ROOT, Tester, run
+from program import EXAMPLES, Tester, run, stores, version
 
 # B's load comes before, between or after A's stores: three schedules, and in the second B fails.
 RACE = "var x;\nthread A { store x 1; store x 0; }\nthread B { load r x; assert r == 0; }\n"
@@ -545,8 +545,7 @@ class Commands(Tester):
         for words in HELPED:
             out, err, status = self.run(words)
             self.compare(words, (out, err[-len(HELP_END):], status), ("", HELP_END, 2))
-        version = json.loads((ROOT / "share/vscode/package.json").read_text(encoding="utf-8"))["version"]
-        self.answers(["--version"], "", "ctxbound %s\n" % version, 2)
+        self.answers(["--version"], "", "ctxbound %s\n" % version(), 2)
 
     def peak(self, *words):
         """The most memory that the program holds as it answers, in kilobytes."""
@@ -565,8 +564,6 @@ class Commands(Tester):
             self.answers(["replay", "-", schedule], *wanted, given=text)
         self.answers(["check", "-"], "", "", 0, given=COPIES % "")
         # Eight threads of one store each: more schedules than a round tries.
-        text = "".join("var %s; " % name.lower() for name in SIXTEEN[:8])
-        text += "".join(threads(name, "store %s 1; " % name.lower()) for name in SIXTEEN[:8])
         for words, limits in AT_LIMITS:
             for limit, *wanted in limits:
                 out, err, status = self.run([*words, "--limit", str(limit)])
@@ -574,7 +571,7 @@ class Commands(Tester):
                 self.compare([*words, limit], ([told[key] for key in ("verdict", "bound", "tried")], err, status),
                              (wanted, "", 0 if wanted[0] == "clean" else 3))
         words = ["explore", "-", "--bound", "0", "--limit", "1000"]
-        out, err, status = self.run(words, text)
+        out, err, status = self.run(words, stores(SIXTEEN[:8].lower()))
         tried = int(re.match(r"\d*", out[len(CUT_SHORT):])[0] or 0)
         self.compare(words, (out[:len(CUT_SHORT)], 1000 <= tried <= 17383, err, status), (CUT_SHORT, True, "", 3))
 

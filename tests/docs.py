@@ -2,11 +2,9 @@
 """Runs every command that the documents, the examples and the worked rows show, and compares what it prints.
 
 Usage: tests/docs.py BINARY
-       tests/docs.py --unproved [--documents]
+       tests/docs.py --unproved
 
-With --unproved the program is built without proofs, by `rt try`: three times side by side, or as often as the variable
-BUILDS says, each for a part of the commands. It checks each access to memory as it runs and is slow, so each command is run once;
-with --documents, those that documents and examples show, and no worked row.
+With --unproved the program is built without proofs, and checks each access to memory as it runs.
 
 In README.md and docs/*.md, fenced blocks are read by their first line:
 
@@ -27,7 +25,6 @@ standard output all others.
 
 Each search that is shown is made again by several workers, and must print the same.
 """
-import os
 import re
 import shlex
 import shutil
@@ -37,13 +34,11 @@ import tempfile
 from concurrent.futures import ThreadPoolExecutor
 from pathlib import Path
 
-from program import EXAMPLES, ROOT, guests, run
+from program import EXAMPLES, ROOT, build_unproved, guests, run
 
 WORKERS = (2, 8)
 # What such a search prints may depend on the workers, or says how many they are.
 DEPENDS = {"--limit", "--quick", "--workers"}
-# So many builds without proofs run the commands side by side. One takes the least time of a processor.
-BUILDS = int(os.environ.get("BUILDS", 3))
 ROWS = ROOT / "tests/rows.txt"
 
 
@@ -83,14 +78,11 @@ def commands(lines, number):
 
 def commented_commands(text):
     """The commands in the comments of an example, in the form of `commands`."""
-    found, printing = [], False
-    for number, line in enumerate(text.split("\n"), 1):
+    lines, printing = [], False
+    for line in text.split("\n"):
         printing = line.startswith("# $ ") or printing and line.startswith("# ")
-        if line.startswith("# $ "):
-            found.append((number, line[4:], []))
-        elif printing:
-            found[-1][2].append(line[2:])
-    return found
+        lines.append(line[2:] if printing else "")
+    return commands(lines, 0)
 
 
 def row_blocks(text):
@@ -143,53 +135,6 @@ def printed_by(binary, asked):
             return ["(no end within %d seconds)" % late.timeout]
 
 
-def write_case(folder, number, asked):
-    """The files of a case for `rt try`: what is on standard input, and its words. The program of a row, which has the
-    same name in each, is the case's own file."""
-    case = folder / ("c%04d" % number)
-    case.write_text(asked.programs.get("FILE" if asked.is_row else "-", ""), encoding="utf-8")
-    words = ["{}" if asked.is_row and word == "FILE" else word for word in asked.words]
-    Path(str(case) + ".args").write_text("\n".join(words) + "\n", encoding="utf-8")
-
-
-def files_of(all_asked, folder):
-    """The files that these commands find, by their names: the examples, and what the documents show."""
-    found = {str(path.relative_to(ROOT)): path for path in guests("examples", "examples/real")}
-    for asked in all_asked:
-        for name, text in asked.programs.items():
-            if not asked.is_row and name != "-":
-                found[name] = folder / name
-                found[name].write_text(text, encoding="utf-8")
-    return found
-
-
-def run_unproved(all_asked):
-    """What each of these commands prints, all run over builds without proofs, side by side."""
-    length = -(-len(all_asked) // BUILDS)
-    parts = [all_asked[first:first + length] for first in range(0, len(all_asked), length)]
-    with ThreadPoolExecutor(BUILDS) as pool:
-        for printed in pool.map(run_by_one_build, parts):
-            yield from printed
-
-
-def run_by_one_build(all_asked):
-    """What each of these commands prints, all run over one build without proofs."""
-    with tempfile.TemporaryDirectory() as folder, tempfile.TemporaryDirectory() as cases:
-        for number, asked in enumerate(all_asked):
-            write_case(Path(cases), number, asked)
-        data = [word for name, file in files_of(all_asked, Path(folder)).items()
-                for word in ("--data", "%s=%s" % (name, file))]
-        done = run(["rt", "try", *data, "--cases", cases], seconds=None, cwd=ROOT / "crates/ctxbound")
-    # Output comes behind a line `== CASE`; what else is written, before a line `case=CASE ..`.
-    outs = dict(re.findall(r"^== (c\d{4})\n(.*?)(?=^== c\d{4}\n|\Z)", done.out, re.M | re.S))
-    errors = {case: (text, int(status)) for text, case, status in re.findall(
-        r"(.*?)case=(c\d{4}) run=ended status=(\d+) [^\n]*\n", done.err, re.S)}
-    if not errors:
-        raise SystemExit(done.err + "rt try: no answer")
-    cases = ["c%04d" % number for number in range(len(all_asked))]
-    return [lines_of(asked, outs.get(case, ""), *errors.get(case, ("(no answer)\n", 0))) for case, asked in zip(cases, all_asked)]
-
-
 def by_workers(words):
     """The same search by several workers, if this is a search whose output is theirs, too."""
     if words[:1] not in (["explore"], ["unbounded"]) or DEPENDS.intersection(words):
@@ -209,9 +154,8 @@ class Asked:
 class Reader:
     """Reads the documents: the commands that they show, and what is wrong in them."""
 
-    def __init__(self, workers, rows):
-        self.workers, self.asked, self.faults = workers, [], []
-        self.worked, self.shown = [(self.rows, ROWS)] if rows else [], {}
+    def __init__(self):
+        self.asked, self.faults, self.shown = [], [], {}
 
     def take(self, path, shown, programs):
         """The words of a command, which is put to the others."""
@@ -227,7 +171,7 @@ class Reader:
         if program not in ("ctxbound", "build/ctxbound"):
             self.faults.append(place + "\n    not a command of ctxbound: it belongs in another kind of block")
             return words
-        for asked in [words] + (by_workers(words) if self.workers else []):
+        for asked in [words] + by_workers(words):
             self.asked.append(Asked("%s%s" % (place, "" if asked == words else " --workers " + asked[-1]),
                                     asked, expected, programs, path == ROWS))
         return words
@@ -266,7 +210,7 @@ class Reader:
     def read(self):
         documents = [ROOT / "README.md"] + sorted((ROOT / "docs").glob("*.md"))
         work = [(self.document, path) for path in documents if path.exists()]
-        work += [(self.example, path) for path in guests("examples")] + self.worked
+        work += [(self.example, path) for path in guests("examples")] + [(self.rows, ROWS)]
         for take_in, path in work:
             try:
                 take_in(path)
@@ -279,17 +223,14 @@ class Reader:
 
 
 def main():
-    documents = sys.argv[1:] == ["--unproved", "--documents"]
-    if not documents and (len(sys.argv) != 2 or sys.argv[1] != "--unproved" and not Path(sys.argv[1]).is_file()):
-        raise SystemExit("usage: tests/docs.py BINARY, or tests/docs.py --unproved [--documents]")
-    unproved = sys.argv[1] == "--unproved"
-    reader = Reader(workers=not unproved, rows=not documents)
+    is_unproved = sys.argv[1:] == ["--unproved"]
+    if not is_unproved and (len(sys.argv) != 2 or not Path(sys.argv[1]).is_file()):
+        raise SystemExit("usage: tests/docs.py BINARY, or tests/docs.py --unproved")
+    reader = Reader()
     reader.read()
-    if unproved:
-        answers = run_unproved(reader.asked)
-    else:
-        binary = str(Path(sys.argv[1]).resolve())
-        answers = (printed_by(binary, asked) for asked in reader.asked)
+    with tempfile.TemporaryDirectory() as folder, ThreadPoolExecutor() as pool:
+        binary = build_unproved(Path(folder)) if is_unproved else Path(sys.argv[1]).resolve()
+        answers = list(pool.map(lambda asked: printed_by(binary, asked), reader.asked))
     faults, passed = reader.faults, 0
     for asked, printed in zip(reader.asked, answers):
         if printed == asked.expected:

@@ -13,9 +13,9 @@ where docs/ARCHITECTURE.md leaves a file of definitions out. With --list it prin
 import functools
 import re
 import sys
-from pathlib import Path
 
-ROOT = Path(__file__).resolve().parent.parent
+from program import ROOT
+
 BOTH = "By a clause, and by a test"
 ALONE = "By a test alone"
 ROWS = "tests/rows.txt"

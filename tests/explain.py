@@ -16,7 +16,7 @@ Usage: tests/explain.py BINARY
 import json
 import re
 
-from program import EXAMPLES, ROOT, Tester, guests, run, text_of
+from program import EXAMPLES, ROOT, Tester, guests, run, text_of, waits
 
 HERE = ROOT / "tests" / "explain"
 
@@ -204,12 +204,8 @@ class Explained(Tester):
         """Fifteen threads wait again and again, and one wakes them all each time: near the most steps that
         a program has. Each step is told, once and in order."""
         rounds = 1022
-        turns = "repeat 31 { repeat 32 { %s } } repeat 30 { %s }"
-        text = "mutex m; cond c; " + " ".join(
-            "thread T%d { lock m; %s }" % (t, turns % (("wait c m;",) * 2)) for t in range(15))
-        self.write("long.guest", text + " thread B { %s }" % (turns % (("broadcast c;",) * 2)))
-        schedule = ",".join(["%dx2" % t for t in range(15)] + ["15"]) + ","
-        schedule = (schedule * rounds)[:-1]
+        text, schedule = waits(rounds)
+        self.write("long.guest", text)
         steps = rounds * 31
         for words in ([], ["--all"], ["--json"], ["--html"]):
             out, err, status = self.run("explain", "long.guest", schedule, *words)

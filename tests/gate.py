@@ -19,9 +19,9 @@ import signal
 import subprocess
 import sys
 import time
-from pathlib import Path
 
-ROOT = Path(__file__).resolve().parent.parent
+from program import ROOT
+
 CLOSING = re.compile(r"(\d+) passed, (\d+) failed$")
 PROGRAM = "build/ctxbound"
 TOOLS = "crates/tests_tools/out/tests_tools"
@@ -139,8 +139,8 @@ def main():
     gate = Gate()
     gate.part("the list of wrong bodies", [sys.executable, "tests/edits.py"])
     gate.part("the budget of lines", [sys.executable, "tests/budget.py"])
-    # What people run who prove nothing, but for the worked rows: by one build, which costs the least.
-    unproved = begin(["env", "BUILDS=1", sys.executable, "tests/docs.py", "--unproved", "--documents"])
+    # What people run who prove nothing.
+    unproved = begin([sys.executable, "tests/docs.py", "--unproved"])
     print(gate.part("proofs, wrong bodies and tests", ["rt", "ci"]), flush=True)
     (ROOT / "build").mkdir(exist_ok=True)
     shutil.copyfile(ROOT / "crates/ctxbound/out/ctxbound", ROOT / PROGRAM)

@@ -19,8 +19,8 @@ import os
 from collections import namedtuple
 from concurrent.futures import ThreadPoolExecutor
 
-from prefixes import TooMany, nodes, run_of
-from program import EXAMPLES, Tester, compact, guests, schedule_of, schedule_text, text_of
+from prefixes import nodes, run_of
+from program import EXAMPLES, Tester, TooMany, compact, guests, schedule_of, schedule_text, text_of
 from simulator import Guest, Maker
 
 # How many prefixes are asked for, and of how many guests one is asked for so many.

@@ -13,7 +13,7 @@ interpreter of tests/simulator.py, which shares no code with the program; who sl
 - Words that ask for nothing are refused, a text is read from standard input, too, and a cover that lacks a line, or has
   one beside its beginning, is noticed.
 """
-from program import EXAMPLES, Tester, guests, schedule_of
+from program import EXAMPLES, Tester, TooMany, guests, schedule_of
 from simulator import PARTS, Guest, Maker, Run
 
 COUNTS = (1, 7, 64, 1000)
@@ -21,10 +21,6 @@ MOST_SCHEDULES = 400
 MOST_STEPS = 30000
 DRAWN = 20
 TRIED_LINES = 60
-
-
-class TooMany(Exception):
-    pass
 
 
 def run_of(guest, schedule):

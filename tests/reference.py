@@ -12,7 +12,7 @@ import random
 import time
 from collections import namedtuple
 
-from program import Tester, compact, schedule_text
+from program import Tester, TooMany, compact, schedule_text
 
 BOUNDS = (0, 1, 2, 3, 4, 64)
 WORKERS = (1, 2, 3, 8, 16)
@@ -31,7 +31,6 @@ Place = namedtuple("Place", "place locals status")
 State = namedtuple("State", "values owners queues counts places")
 
 LOCAL = {"set", "assert", "skip", "skip_if_zero"}
-WRITES = {"store", "add", "cas", "lock", "unlock", "signal", "broadcast", "acquire", "release"}
 
 
 def wrapped(number):
@@ -205,10 +204,6 @@ def are_independent(program, state, t, u):
 
 # A complete schedule: its threads, how many preemptions it has, its kind and the last values.
 Complete = namedtuple("Complete", "schedule preemptions kind values")
-
-
-class TooMany(Exception):
-    pass
 
 
 def all_complete(program, most):
@@ -556,20 +551,26 @@ class Comparer(Tester):
         except TooMany:
             return False
         self.write("program.guest", self.text)
-        chance = random.Random(seed)
-        self.searches(program, everything, chance)
-        self.replays(program, everything, chance)
+        self.compared(program, everything, random.Random(seed))
         return True
 
-    def test(self):
-        until = time.monotonic() + 60 * self.given.minutes
-        compared, seed = 0, 1000003 * self.given.seed
-        for guest in FIXED:
+    def compared(self, program, everything, chance):
+        self.searches(program, everything, chance)
+        self.replays(program, everything, chance)
+
+    def programs(self, maker, fixed):
+        """Compares these programs and those that are made at random; how many there are."""
+        minutes, compared, seed = getattr(self.given, "minutes", 0), 0, 1000003 * self.given.seed
+        until = time.monotonic() + 60 * minutes
+        for guest in fixed:
             self.guest(guest, seed, MOST_OF_LARGE)
-        while time.monotonic() < until if self.given.minutes else compared < self.given.programs:
-            compared += self.guest(Maker(seed), seed)
+        while time.monotonic() < until if minutes else compared < self.given.programs:
+            compared += self.guest(maker(seed), seed)
             seed += 1
-        print("%d programs, and %d that aren't made at random" % (compared, len(FIXED)))
+        return "%d programs, and %d that aren't made at random" % (compared, len(fixed))
+
+    def test(self):
+        print(self.programs(Maker, FIXED))
 
 
 if __name__ == "__main__":

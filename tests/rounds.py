@@ -9,18 +9,11 @@ there are as many walks as schedules.
 import json
 import math
 
-from program import ROOT, Tester, guests, refusing, run, run_refused
+from program import Tester, guests, refusing, run, run_refused, stores, version
 
 FULL = 64
 KEPT = ("bound", "kind", "preemptions", "schedule", "verdict")
 NAMES = "ABCDEFGHIJKLMNOP"
-
-
-def stores(count):
-    """Threads that each store to a variable of their own."""
-    names = NAMES[:count]
-    return "".join("var %s; " % name.lower() for name in names) + \
-        " ".join("thread %s { store %s 1; }" % (name, name.lower()) for name in names)
 
 
 def writers(count, bad):
@@ -34,7 +27,7 @@ def writers(count, bad):
 
 
 GUESTS = {
-    **{"threads%d" % count: stores(count) for count in range(2, 13)},
+    **{"threads%d" % count: stores(NAMES[:count].lower()) for count in range(2, 13)},
     "first": "var x; thread A { store x 1; assert 0; } thread B { store x 1; } thread C { store x 1; }",
     "late": writers(7, 2), "later": writers(11, 2),
     # Of the values that the first thread finds one sum in twelve is bad.
@@ -155,10 +148,9 @@ class Rounds(Tester):
             rounds.append((now, 0))
         return rounds, json.loads(report)
 
-    def search(self, guest, *words):
+    def search(self, guest, command, *words):
         """What `ctxbound` writes and its status."""
-        command, *others = words
-        return self.run(command, guest, *others)
+        return self.run(command, guest, *words)
 
     def test(self):
         refusing(self.folder)
@@ -185,8 +177,7 @@ def is_whole(rounds, workers):
 
 
 def clean(count, tried, bound=0):
-    return {"all": True, "bound": bound, "ends": [{"kind": "done", "vars": [1] * count}], "failed": 0, "stuck": 0,
-            "tried": tried, "verdict": "clean"}
+    return good(bound, tried, ["done"] + [1] * count)
 
 
 def full_rounds(trial):
@@ -523,8 +514,7 @@ def words(trial):
     out, _, status = trial.search("long", "replay", "0x1000,1x1000")
     trial.check(status == 0 and len(out) > 2**14 and out.count("\n") == 2003, "a long trace:", len(out))
     out, err, _ = trial.run("--version")
-    version = json.loads((ROOT / "share/vscode/package.json").read_text(encoding="utf-8"))["version"]
-    trial.check(out + err == "ctxbound %s\n" % version, "--version:", out + err)
+    trial.check(out + err == "ctxbound %s\n" % version(), "--version:", out + err)
     report = trial.search("race", "explore")
     for length in [2**k + more for k in range(8, 17) for more in (-1, 0, 1) if 2**k + more <= 65536]:
         trial.write("padded", GUESTS["race"].ljust(length))

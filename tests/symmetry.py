@@ -18,12 +18,11 @@ import json
 import re
 
 from program import EXAMPLES, compact, guests, schedule_of, schedule_text
-from reference import (MOST_OF_LARGE, Comparer, Guest, Maker, TooMany, all_complete, enabled, explored, is_cut_short, is_within,
-                       is_quick_answer, left_by_sleep_sets, start, stepped, summary, trace_of, unbounded, updates)
+from reference import (Comparer, Guest, Maker, enabled, explored, is_cut_short, is_within, is_quick_answer, left_by_sleep_sets,
+                       start, stepped, summary, trace_of, unbounded, updates)
 
 BOUNDS, WORKERS = (0, 1, 2, 3, 64), (1, 2, 8)
 COUNTS = ("tried", "failed", "stuck")
-MOST_SCHEDULES = 1500
 # So many statements has a body, at most, where there are two threads, three, ..
 STATEMENTS = {2: 5, 3: 4, 4: 3, 5: 2, 6: 1}
 # Three equal threads with more schedules than a round tries.
@@ -176,14 +175,7 @@ class Symmetry(Comparer):
         found = json.loads(self.run("explain", "--json", "program.guest").out)["search"]
         self.same(self.text + "explain", found, by_bound(64))
 
-    def guest(self, guest, seed, most=MOST_SCHEDULES):
-        """Compares all that is asked of one program; False where it has too many schedules."""
-        program, self.text = guest.program(), guest.text()
-        try:
-            everything = all_complete(program, most)
-        except TooMany:
-            return False
-        self.write("program.guest", self.text)
+    def compared(self, program, everything, chance):
         rule, awake = Rule(program), set(left_by_sleep_sets(program, start(program), ()))
         kept = [c for c in everything if rule.leaves(c.schedule, True)]
         pruned = [c for c in everything if c.schedule in awake and rule.leaves(c.schedule, False)]
@@ -195,7 +187,6 @@ class Symmetry(Comparer):
         self.reports("unbounded", [], unbounded(program, everything), whole, pruned)
         self.options(program, kept, by_bound(self.chance.choice(BOUNDS)), whole)
         self.defaults(whole, by_bound, kept)
-        return True
 
     def beside(self, path, words):
         """A guest with and without `--symmetry`: all but the counts is alike."""
@@ -211,13 +202,7 @@ class Symmetry(Comparer):
         for command in ("explore", "unbounded"):
             out, err, status = self.run(command, EXAMPLES / "first.guest", "--symmetry", "--under", "0")
             self.expect(command + " --under", (out, status) == ("", 2) and "--symmetry" in err and "--under" in err, out, err)
-        for guest in FIXED:
-            self.guest(guest, 0, MOST_OF_LARGE)
-        compared, seed = 0, 1000003 * self.given.seed
-        while compared < self.given.programs:
-            compared += self.guest(Twins(seed), seed)
-            seed += 1
-        print("%d programs, and %d that aren't made at random; of %d a schedule isn't tried" % (compared, len(FIXED), self.hiding))
+        print("%s; of %d a schedule isn't tried" % (self.programs(Twins, FIXED), self.hiding))
 
 
 if __name__ == "__main__":
