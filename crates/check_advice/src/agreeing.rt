@@ -31,7 +31,46 @@ fn tested(instruction: &Instruction) -> Option<&Expression> {
     }
 }
 
+// The way at a place from which a path leads to the fault, with the test as it `holds` or, where a
+// local of it was set, the other way; `after` says of which ways it does.
+fn leading_way(
+    after: &[Option<usize>],
+    place: usize,
+    owns: bool,
+    holds: bool,
+    is_set: bool,
+) -> Option<usize> {
+    let first = place.saturating_mul(WAYS).saturating_add(if owns { 2 } else { 0 });
+    let leads = |holds: bool| {
+        let way = first.saturating_add(usize::from(holds));
+        after.get(way)?.map(|_| way)
+    };
+    leads(holds).or(leads(!holds).filter(|_| is_set))
+}
+
 impl Fault<'_> {
+    // Whether the thread has the mutex after an instruction, the one at `place`, before which it has
+    // it if `owns`; `None` where the path ends, since the thread takes what it has.
+    fn owns_after(self, place: usize, instruction: &Instruction, owns: bool) -> Option<bool> {
+        match instruction {
+            Instruction::Lock(taken) if *taken == self.mutex && owns => None,
+            // what another `lock` takes isn't what this one keeps
+            Instruction::Lock(taken) if *taken == self.mutex => {
+                Some(!self.keeps || place == self.at)
+            }
+            Instruction::Unlock(given) if *given == self.mutex => Some(false),
+            _ => Some(owns),
+        }
+    }
+
+    // Whether an instruction sets a local of the expression of which tests agree.
+    fn sets_read(self, instruction: &Instruction) -> bool {
+        match (self.test, local_set(instruction)) {
+            (Some(test), Some(local)) => expression_reads(local, test),
+            _ => false,
+        }
+    }
+
     // The way after the one of number `way` on such a path, which jumps where it may; itself at the
     // fault, and `None` where no path leads there. `after` says so of the ways at later places.
     fn way_after(self, after: &[Option<usize>], way: usize) -> Option<usize> {
@@ -42,23 +81,9 @@ impl Fault<'_> {
         if place == self.at && !self.keeps {
             return (!owns).then_some(way);
         }
-        let owns = match instruction {
-            Instruction::Lock(taken) if *taken == self.mutex && owns => return None,
-            // what another `lock` takes isn't what this one keeps
-            Instruction::Lock(taken) if *taken == self.mutex => !self.keeps || place == self.at,
-            Instruction::Unlock(given) if *given == self.mutex => false,
-            _ => owns,
-        };
-        let is_read = |local: usize| self.test.is_some_and(|test| expression_reads(local, test));
-        let is_set = local_set(instruction).is_some_and(is_read);
-        let leads = |place: usize| {
-            let first = place.saturating_mul(WAYS);
-            let leads_as = |holds: bool| {
-                let way = first.saturating_add(usize::from(holds) + if owns { 2 } else { 0 });
-                after.get(way)?.map(|_| way)
-            };
-            leads_as(holds).or(leads_as(!holds).filter(|_| is_set))
-        };
+        let owns = self.owns_after(place, instruction, owns)?;
+        let is_set = self.sets_read(instruction);
+        let leads = |place: usize| leading_way(after, place, owns, holds, is_set);
         let next = place.saturating_add(1);
         let jump = next.saturating_add(skip_of(instruction));
         match tested(instruction) {

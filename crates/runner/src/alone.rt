@@ -170,8 +170,8 @@ pub(crate) fn search_alone<G: Gate>(
 /// that no schedule exceeds, or at the bound that was asked for. A search without a bound tries the
 /// schedules that sleep sets leave. A quick one leaves out items that can't hold the first bad
 /// schedule any more; with [`Options::symmetry`], of threads that are equal where they are only the
-/// lowest is let step, which changes nothing but the counts. Each search is cut short, unless it has
-/// its answer, after a round in which the limit was reached.
+/// lowest is let step, which changes nothing but the counts, where it isn't cut short. Each search is
+/// cut short, unless it has its answer, after a round in which the limit was reached.
 ///
 /// # Errors
 ///

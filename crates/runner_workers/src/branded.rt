@@ -1,9 +1,7 @@
 //! Books that are known to be of one search, by their type.
 
-ghost use Rattle.std.specs.Prelude.{◌≡◌, ◌-◌, ◌⊎◌, ◌↔◌, [], OnOk, OnErr, IsTrue, length, drop};
-ghost use Rattle.walk_items.specs.Items.{AreOf};
+ghost use Rattle.std.specs.Prelude.{◌≡◌, ◌⊎◌, ◌↔◌, [], OnOk, OnErr, IsTrue};
 ghost use Rattle.book.specs.Books.{HaveFound, HaveSettled, AreNotTaken, thinned};
-ghost use Rattle.book.specs.declared.limits.TheConstants.{ROUND};
 ghost use Rattle.runner_workers.specs.{Teams.IsOf, declared.round.Round.Round};
 ghost use Rattle.runner_workers.specs.inner.Rounds.{IsRoundOf, AreKept, GoesOn};
 
@@ -12,7 +10,6 @@ use crate::worker::Worker;
 use book::books::Book;
 use std::alloc::{AllocError, Global};
 use std::marker::{Brand, Model, PhantomData};
-use walk_items::item::Item;
 
 /// The search that a book is of, as a type: item, mode, and whether it is quick and lists deferred
 /// prefixes. For contracts alone. Each stretch of rounds is given its own.
@@ -84,7 +81,8 @@ impl<N: SearchBrand> BrandedBook<N> {
 
     /// The book, without its brand.
     pub fn book(&self) -> &Book
-        ensures { result.now ≡ self.now }
+        ensures same { result.now ≡ self.now }
+        ensures of { IsOf result.now N.of N.mode N.quick N.lists }
     {
         &self.book
     }
@@ -146,17 +144,5 @@ impl<N: SearchBrand> BrandedBook<N> {
             Some(limit) => self.book.finished().tried() < limit,
             None => true,
         }
-    }
-
-    /// Replaces `items`, items of the same program, by copies of those of the next round. Fails
-    /// where memory runs out.
-    pub fn next_round(&mut self, alloc: Global, items: &mut Vec<Item>) -> Result<(), AllocError>
-        requires { AreOf N.of.program items.old.items }
-        ensures round { OnOk result (items.new.items
-            ≡ drop (length self.old.open_items - ROUND) self.old.open_items) }
-        ensures items { AreOf N.of.program items.new.items }
-        ensures book { self.new ≡ self.old }
-    {
-        self.book.next_round(alloc, items)
     }
 }

@@ -126,7 +126,7 @@ impl<N: SearchBrand> Desk<N> {
             × (self.new.own_from ≡ self.old.own_from) × (self.new.ends ≡ self.old.ends) }
     {
         let mut items = self.take_spare_items(alloc);
-        self.book.next_round(alloc, &mut items)?;
+        self.book.book().next_round(alloc, &mut items)?;
         let before = &self.round;
         let round = Round {
             mode: before.mode,
