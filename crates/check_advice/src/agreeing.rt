@@ -11,7 +11,7 @@ use std::alloc::{AllocError, Global};
 const WAYS: usize = 4;
 
 // What is warned of a mutex, at the instruction of number `at`: that the thread takes it there and
-// keeps it up to its end, or comes there without it. It does so on a path on which the tests of one
+// ends owning it, or comes there without it. It does so on a path on which the tests of one
 // expression agree, if one is given: a test goes as the one before it did, unless a local of the
 // expression was set between them.
 #[derive(Clone, Copy)]
@@ -19,7 +19,7 @@ struct Fault<'a> {
     code: &'a [Instruction],
     at: usize,
     mutex: usize,
-    keeps: bool,
+    ends_owning: bool,
     test: Option<&'a Expression>,
 }
 
@@ -40,7 +40,9 @@ fn leading_way(
     holds: bool,
     is_set: bool,
 ) -> Option<usize> {
-    let first = place.saturating_mul(WAYS).saturating_add(if owns { 2 } else { 0 });
+    let first = place
+        .saturating_mul(WAYS)
+        .saturating_add(if owns { 2 } else { 0 });
     let leads = |holds: bool| {
         let way = first.saturating_add(usize::from(holds));
         after.get(way)?.map(|_| way)
@@ -54,9 +56,9 @@ impl Fault<'_> {
     fn owns_after(self, place: usize, instruction: &Instruction, owns: bool) -> Option<bool> {
         match instruction {
             Instruction::Lock(taken) if *taken == self.mutex && owns => None,
-            // what another `lock` takes isn't what this one keeps
+            // what another `lock` takes isn't what this one ends with
             Instruction::Lock(taken) if *taken == self.mutex => {
-                Some(!self.keeps || place == self.at)
+                Some(!self.ends_owning || place == self.at)
             }
             Instruction::Unlock(given) if *given == self.mutex => Some(false),
             _ => Some(owns),
@@ -76,9 +78,9 @@ impl Fault<'_> {
     fn way_after(self, after: &[Option<usize>], way: usize) -> Option<usize> {
         let (place, owns, holds) = (way / WAYS, way % WAYS >= 2, way % 2 == 1);
         let Some(instruction) = self.code.get(place) else {
-            return (self.keeps && owns).then_some(way);
+            return (self.ends_owning && owns).then_some(way);
         };
-        if place == self.at && !self.keeps {
+        if place == self.at && !self.ends_owning {
             return (!owns).then_some(way);
         }
         let owns = self.owns_after(place, instruction, owns)?;
@@ -129,13 +131,13 @@ impl Fault<'_> {
 }
 
 impl Compiled<'_> {
-    /// Whether a warning is `MayKeep` or `MayLack`, and is ruled out by some test in the thread's
-    /// code: it isn't so on any path on which the tests of the same expression agree; or is of a
-    /// `lock` after which the mutex is given back on each path. Fails where memory runs out.
+    /// Whether a warning is `MissingUnlock` or `MissingLock`, and is ruled out by some test in the code
+    /// of the thread: it isn't so on any path on which the tests of the same expression agree; or is
+    /// of a `lock` after which the mutex is given back on each path. Fails where memory runs out.
     pub fn is_ruled_out(&self, alloc: Global, warning: Warning) -> Result<bool, AllocError> {
-        let (thread, keeps) = match warning.kind {
-            WarningKind::MayKeep(thread) => (thread, true),
-            WarningKind::MayLack(thread) => (thread, false),
+        let (thread, ends_owning) = match warning.kind {
+            WarningKind::MissingUnlock(thread) => (thread, true),
+            WarningKind::MissingLock(thread) => (thread, false),
             _ => return Ok(false),
         };
         let (code, at) = (self.code(thread), warning.number);
@@ -148,7 +150,7 @@ impl Compiled<'_> {
             code,
             at,
             mutex,
-            keeps,
+            ends_owning,
             test: None,
         };
         fault.is_ruled_out(alloc)

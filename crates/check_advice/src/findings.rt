@@ -7,9 +7,8 @@ use check_hints::pieces::{START, is_boundary, piece_index_at};
 use check_lint::uses::Use;
 use check_lint::warning::{Subject, Warning, WarningKind};
 use check_lint::warnings::all_warnings;
-use guest_code::kinds::{NameKind, kind_of};
+use guest_code::kinds::kind_of;
 use guest_syntax::place::Pos;
-use guest_syntax::tree::Tree;
 use std::alloc::AllocError;
 
 // A warning, and the place in the text at which it is told.
@@ -19,23 +18,7 @@ struct Finding {
     at: Pos,
 }
 
-// The place of the declared name of an object, by its kind and its number: those of a kind have
-// numbers from 0 on, in the order of the text. The start of the text where there is no such object.
-fn declaration_place(tree: &Tree, kind: NameKind, number: usize) -> Pos {
-    let objects = tree.declarations().iter();
-    let mut of_kind = objects.filter(|object| kind_of(object.object) == kind);
-    of_kind.nth(number).map_or(START, |object| object.name.at)
-}
-
 impl Compiled<'_> {
-    // The place of the first instruction of a thread that makes this use of a local; that of the
-    // thread's first instruction where none does.
-    fn first_use_place(&self, thread: u8, use_: Use, local: usize) -> Pos {
-        let mut code = self.code(thread).iter();
-        let first = code.position(|instruction| use_.is_made(local, instruction));
-        self.place(thread, first.unwrap_or(0))
-    }
-
     // The first place of a name in the statement that begins at `at`; `at` itself where the
     // statement doesn't have the name.
     fn name_place(&self, at: Pos, name: &str) -> Pos {
@@ -46,7 +29,8 @@ impl Compiled<'_> {
     }
 
     // A warning with its place: for a local that of its name in a statement, for an instruction
-    // that of its statement, and for an object that of its declared name.
+    // that of its statement, and for an object that of its declared name. Objects of a kind have
+    // numbers from 0 on, in the order of the text.
     fn locate(&self, warning: Warning) -> Finding {
         let number = warning.number;
         let at = match warning.kind.row().0 {
@@ -55,11 +39,17 @@ impl Compiled<'_> {
                     WarningKind::NeverSet(_) => Use::Reads,
                     _ => Use::OnlySets,
                 };
-                let statement = self.first_use_place(thread, use_, number);
+                let mut code = self.code(thread).iter();
+                let first = code.position(|instruction| use_.is_made(number, instruction));
+                let statement = self.place(thread, first.unwrap_or(0));
                 self.name_place(statement, self.local_name(thread, number))
             }
             Subject::Instruction(thread) => self.place(thread, number),
-            Subject::Object(kind) => declaration_place(self.tree, kind, number),
+            Subject::Object(kind) => {
+                let objects = self.tree.declarations().iter();
+                let mut of_kind = objects.filter(|object| kind_of(object.object) == kind);
+                of_kind.nth(number).map_or(START, |object| object.name.at)
+            }
         };
         Finding { warning, at }
     }

@@ -25,8 +25,8 @@ impl<'a> Compiled<'a> {
                 let local = self.local_name(thread, warning.number);
                 told.say(format_args!("no statement of {name} reads `{local}`"))?;
             }
-            WarningKind::MayKeep(thread)
-            | WarningKind::MayLack(thread)
+            WarningKind::MissingUnlock(thread)
+            | WarningKind::MissingLock(thread)
             | WarningKind::LocksAgain(thread) => {
                 told.say(format_args!("{} {said}", self.thread_name(thread)))?;
             }

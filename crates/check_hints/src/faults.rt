@@ -41,7 +41,11 @@ pub fn tell_fault(
     match error {
         CheckError::Duplicate(_) | CheckError::WrongKind(_) => tell_declared(told, site, error),
         CheckError::Unknown(_) => tell_unknown(told, site),
-        CheckError::TooMany(_) => tell_too_many(told, site.keyword()),
+        CheckError::TooMany(_) => {
+            let (_, what, most) = kind_of(site.keyword());
+            let next = most.saturating_add(1);
+            told.say(format_args!("the {next}th {what}: at most {most}"))
+        }
         CheckError::NoThreads => told.say("a program has at least one thread: thread A { .. }"),
         CheckError::CodeTooLong(_) => told.say(
             "more than 1,024 instructions, with all copies of each `repeat` written out",
@@ -108,11 +112,4 @@ fn tell_unknown(told: &mut Message, site: FaultSite<'_>) -> Result<(), AllocErro
     }
     let opening = if keyword == "sem" { " = 0" } else { "" };
     told.note(format_args!("declare it: {keyword} {found}{opening};"))
-}
-
-// Tells of what is one too many, by the keyword of its declaration or of its first statement.
-fn tell_too_many(told: &mut Message, keyword: &str) -> Result<(), AllocError> {
-    let (_, what, most) = kind_of(keyword);
-    let next = most.saturating_add(1);
-    told.say(format_args!("the {next}th {what}: at most {most}"))
 }

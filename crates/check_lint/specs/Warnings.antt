@@ -37,14 +37,14 @@ Gives i m = ⊥
 
 -- Instruction k takes a mutex, some path leads to it with the mutex not owned, and after it some path
 -- leads to the end with the mutex still owned.
-abbrev pub MayKeep : List Instruction → ℕ → Type 0
-MayKeep code k = (m : ℕ) × Locks (slice_index_or code k (Skip 0)) m
+abbrev pub MissingUnlock : List Instruction → ℕ → Type 0
+MissingUnlock code k = (m : ℕ) × Locks (slice_index_or code k (Skip 0)) m
     × Comes code (watches.Owns m) 0 false k false
     × Comes code (watches.Owns m) (suc k) true (length code) true
 
 -- Instruction k gives a mutex back, and some path leads to it with the mutex not owned.
-abbrev pub MayLack : List Instruction → ℕ → Type 0
-MayLack code k = (m : ℕ) × Gives (slice_index_or code k (Skip 0)) m
+abbrev pub MissingLock : List Instruction → ℕ → Type 0
+MissingLock code k = (m : ℕ) × Gives (slice_index_or code k (Skip 0)) m
     × Comes code (watches.Owns m) 0 false k false
 
 -- Instruction k takes a mutex, paths lead to it, and after each the mutex is owned already.
@@ -87,8 +87,8 @@ IsSo p kinds.NeverWaitedFor c = UsesAnywhere p uses.Signals c × ¬ UsesAnywhere
 IsSo p kinds.NeverReleased s = ((semaphore_at p s).count ≡ 0) × UsesAnywhere p uses.Acquires s
     × ¬ UsesAnywhere p uses.Releases s
 IsSo p (kinds.Unreached t) k = ¬ IsReached (code_of p t) k
-IsSo p (kinds.MayKeep t) k = MayKeep (code_of p t) k
-IsSo p (kinds.MayLack t) k = MayLack (code_of p t) k
+IsSo p (kinds.MissingUnlock t) k = MissingUnlock (code_of p t) k
+IsSo p (kinds.MissingLock t) k = MissingLock (code_of p t) k
 IsSo p (kinds.LocksAgain t) k = LocksAgain (code_of p t) k
 IsSo p (kinds.WaitNotLookedAtAgain t) k = WaitNotLookedAtAgain (code_of p t) k
 IsSo p (kinds.WaitsElsewhere t) k = WaitsElsewhere p (instruction_at p t k)
@@ -107,8 +107,8 @@ subject_of kinds.NeverSignalled = Object names.Condition
 subject_of kinds.NeverWaitedFor = Object names.Condition
 subject_of kinds.NeverReleased = Object names.Semaphore
 subject_of (kinds.Unreached t) = Statement t
-subject_of (kinds.MayKeep t) = Statement t
-subject_of (kinds.MayLack t) = Statement t
+subject_of (kinds.MissingUnlock t) = Statement t
+subject_of (kinds.MissingLock t) = Statement t
 subject_of (kinds.LocksAgain t) = Statement t
 subject_of (kinds.WaitNotLookedAtAgain t) = Statement t
 subject_of (kinds.WaitsElsewhere t) = Statement t
@@ -138,8 +138,8 @@ pub data Listed (p : Program) : List WarningKind → List Warning → Type 0 whe
 
 -- the kinds of warnings of a thread, and of a program
 abbrev pub kinds_of_thread : ℕ → List WarningKind
-kinds_of_thread t = kinds.NeverSet t ∷ kinds.NeverRead t ∷ kinds.Unreached t ∷ kinds.MayKeep t
-    ∷ kinds.MayLack t ∷ kinds.LocksAgain t ∷ kinds.WaitNotLookedAtAgain t
+kinds_of_thread t = kinds.NeverSet t ∷ kinds.NeverRead t ∷ kinds.Unreached t ∷ kinds.MissingUnlock t
+    ∷ kinds.MissingLock t ∷ kinds.LocksAgain t ∷ kinds.WaitNotLookedAtAgain t
     ∷ kinds.WaitsElsewhere t ∷ []
 
 abbrev pub kinds_of_threads : ℕ → List WarningKind

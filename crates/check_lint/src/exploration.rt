@@ -75,15 +75,6 @@ fn is_at_signal_to_many(program: &Program, state: &State, thread: u8) -> bool
     waiting >= 2
 }
 
-// Whether a thread whose step left it in this status had a local run after the step. It had none
-// where it waits, or stopped at the step itself; an assertion stops it in the local run alone.
-fn has_run_locally(status: Status) -> bool {
-    match status {
-        Status::Running | Status::Woken | Status::Ended | Status::Stopped(Stop::Assert) => true,
-        Status::Waiting(_) | Status::Stopped(Stop::NotHeld | Stop::SemFull) => false,
-    }
-}
-
 // The first thread, from thread `from` on, that is enabled and isn't in the sleep set `asleep`;
 // `None` where there is none.
 fn next_thread(program: &Program, state: &State, asleep: Mask, from: u8) -> Option<u8>
@@ -121,7 +112,12 @@ fn step_and_note(
         seen.note_signal_to_many(step, at)?;
     }
     let undo = state.step(program, thread);
-    if has_run_locally(state.status(thread)) {
+    // Where the thread waits, or stopped at the step itself, no local run followed the step.
+    let has_run_locally = !matches!(
+        state.status(thread),
+        Status::Waiting(_) | Status::Stopped(Stop::NotHeld | Stop::SemFull)
+    );
+    if has_run_locally {
         seen.note_after_step(step, at, locals)?;
     }
     Ok(undo)

@@ -3,7 +3,7 @@
 ghost use Rattle.std.specs.Prelude.{◌≡◌, ◌<◌, ◌↔◌, IsTrue, IfOk, length, ◌^◌, ◌≤◌};
 ghost use Rattle.guest_code.specs.Program.{code_of, JumpsWithin};
 ghost use Rattle.check_lint.specs.Paths.{IsReached};
-ghost use Rattle.check_lint.specs.Warnings.{UsesIn, UsesAnywhere, IsSo, MayKeep, MayLack, LocksAgain, IsUnseen, WaitNotLookedAtAgain, WaitsElsewhere, subject_of, count_of};
+ghost use Rattle.check_lint.specs.Warnings.{UsesIn, UsesAnywhere, IsSo, MissingUnlock, MissingLock, LocksAgain, IsUnseen, WaitNotLookedAtAgain, WaitsElsewhere, subject_of, count_of};
 
 use crate::paths::{Watch, path_marks, reaches_effect_or_end};
 use crate::uses::Use;
@@ -59,10 +59,10 @@ pub enum WarningKind {
     /// No path through the thread's code leads to an instruction.
     Unreached(u8),
     /// An instruction locks a mutex that on some path the thread still owns at its end.
-    MayKeep(u8),
+    MissingUnlock(u8),
     /// An instruction, an `unlock` or a `wait`, gives up a mutex that on some path the thread
     /// doesn't own there.
-    MayLack(u8),
+    MissingLock(u8),
     /// An instruction locks a mutex that on each path to there the thread owns already.
     LocksAgain(u8),
     /// After a `wait` no local is sure to get a value and then be tested, before the thread ends or
@@ -107,11 +107,11 @@ fn is_reached(alloc: Global, code: &[Instruction], at: usize) -> Result<bool, Al
 
 // Whether the instruction of number `at` is a `lock` of a mutex that on some path to there the
 // thread doesn't own yet, and that on some path from there it still owns at the end of its code.
-fn may_keep(alloc: Global, code: &[Instruction], at: usize) -> Result<bool, AllocError>
+fn lacks_unlock(alloc: Global, code: &[Instruction], at: usize) -> Result<bool, AllocError>
     requires jumps { JumpsWithin code.now }
     requires short { length code.now < 2 ^ 32 }
     requires at { at < length code.now }
-    ensures { IfOk result (λ b. IsTrue b ↔ MayKeep code.now at) }
+    ensures { IfOk result (λ b. IsTrue b ↔ MissingUnlock code.now at) }
 {
     let Instruction::Lock(mutex) = code[at] else {
         return Ok(false);
@@ -123,11 +123,11 @@ fn may_keep(alloc: Global, code: &[Instruction], at: usize) -> Result<bool, Allo
 
 // Whether the instruction of number `at` is an `unlock` of, or a `wait` with, a mutex that the
 // thread doesn't own on some path to there.
-fn may_lack(alloc: Global, code: &[Instruction], at: usize) -> Result<bool, AllocError>
+fn lacks_lock(alloc: Global, code: &[Instruction], at: usize) -> Result<bool, AllocError>
     requires jumps { JumpsWithin code.now }
     requires short { length code.now < 2 ^ 32 }
     requires at { at < length code.now }
-    ensures { IfOk result (λ b. IsTrue b ↔ MayLack code.now at) }
+    ensures { IfOk result (λ b. IsTrue b ↔ MissingLock code.now at) }
 {
     let mutex = match code[at] {
         Instruction::Unlock(mutex) => mutex,
@@ -278,11 +278,11 @@ impl WarningKind {
                 Subject::Instruction(thread),
                 "W7 Unreached: no run comes here: what is before it always leaves",
             ),
-            Self::MayKeep(thread) => (
+            Self::MissingUnlock(thread) => (
                 Subject::Instruction(thread),
                 "W8 MayKeep: may end with this mutex locked: on some way to its end nothing unlocks it",
             ),
-            Self::MayLack(thread) => (
+            Self::MissingLock(thread) => (
                 Subject::Instruction(thread),
                 "W9 MayLack: may come here without this mutex: on some way to here nothing locks it, \
                  or it is unlocked again",
@@ -361,8 +361,12 @@ impl WarningKind {
                     && !is_used(program, Use::Releases, number),
             ),
             Self::Unreached(thread) => Ok(!is_reached(alloc, code_of(program, thread), number)?),
-            Self::MayKeep(thread) => Ok(may_keep(alloc, code_of(program, thread), number)?),
-            Self::MayLack(thread) => Ok(may_lack(alloc, code_of(program, thread), number)?),
+            Self::MissingUnlock(thread) => Ok(lacks_unlock(
+                alloc,
+                code_of(program, thread),
+                number,
+            )?),
+            Self::MissingLock(thread) => Ok(lacks_lock(alloc, code_of(program, thread), number)?),
             Self::LocksAgain(thread) => Ok(locks_again(alloc, code_of(program, thread), number)?),
             Self::WaitNotLookedAtAgain(thread) => Ok(waits_without_recheck(
                 alloc,

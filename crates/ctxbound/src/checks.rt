@@ -4,9 +4,10 @@ use crate::diagnostics::diagnostics_text;
 use crate::files::{GuestFile, guest_files};
 use check_advice::{Checked, advice_text, check};
 use ctxbound_answers::{
-    CheckForm, CheckRequest, CommandFault, Fault, Printed, REFUSED, read_file, write_printed,
+    CheckForm, CheckRequest, CommandFault, Fault, MOST_READ, Printed, REFUSED, read_file,
+    write_printed,
 };
-use std::alloc::{Alloc, AllocError, Global};
+use std::alloc::{Alloc, Global};
 use std::fs;
 use std::fs::Files;
 use std::io::{Input, Write};
@@ -41,18 +42,30 @@ pub fn serve_check<H: Files + Input + Alloc<A = Global> + Clone + Drop, W: Write
     worst
 }
 
-// What a check prints of the text of a file, and the status; or that the file can't be read or
-// memory runs out.
+// What a check prints of the text of a file; or that the file can't be read or memory runs out. The
+// status is 2 where the text is refused, 1 where it has a warning and the check is strict, else 0.
 fn check_file<'a, H: Files + Input + Alloc<A = Global>>(
     rt: &H,
     file: &'a GuestFile,
     request: &CheckRequest,
 ) -> Result<Printed, CommandFault<'a>> {
-    let name = file.name.as_str();
+    let (alloc, name) = (rt.alloc(), file.name.as_str());
     let text = file
         .read(rt)
         .map_err(|error| CommandFault::Device(name, error))?;
-    Ok(check_text(rt.alloc(), text.as_slice(), name, request)?)
+    let text = text.as_slice();
+    let checked = check(alloc, text, request.depth)?;
+    let status = match &checked {
+        Checked::Refused(_) => REFUSED,
+        Checked::Sound(_) if request.strict && checked.is_warned() => 1,
+        Checked::Sound(_) => 0,
+    };
+    let output = match request.form {
+        CheckForm::Lines => advice_text(alloc, text, &checked),
+        CheckForm::Short => diagnostics_text(alloc, text, name, &checked, false),
+        CheckForm::Json => diagnostics_text(alloc, text, name, &checked, true),
+    }?;
+    Ok(Printed { output, status })
 }
 
 // Writes the lines for people on a file that was checked to `err`, and answers its status. If
@@ -67,28 +80,6 @@ fn write_lines<E: Write>(err: &mut E, file: &GuestFile, several: bool, printed: 
     printed.status
 }
 
-// Checks the text of a file of the name `file`, and answers what is printed, and the status: 2 where
-// the text is refused, 1 where it has a warning and the check is strict, else 0.
-fn check_text(
-    alloc: Global,
-    text: &[u8],
-    file: &str,
-    request: &CheckRequest,
-) -> Result<Printed, AllocError> {
-    let checked = check(alloc, text, request.depth)?;
-    let status = match &checked {
-        Checked::Refused(_) => REFUSED,
-        Checked::Sound(_) if request.strict && checked.is_warned() => 1,
-        Checked::Sound(_) => 0,
-    };
-    let output = match request.form {
-        CheckForm::Lines => advice_text(alloc, text, &checked),
-        CheckForm::Short => diagnostics_text(alloc, text, file, &checked, false),
-        CheckForm::Json => diagnostics_text(alloc, text, file, &checked, true),
-    }?;
-    Ok(Printed { output, status })
-}
-
 /// Whether `file` is the name of a plain file whose text is refused; false where it can't be read,
 /// or memory runs out. Standard input and pipes aren't read: they may have been read before, and
 /// can't be read twice.
@@ -96,6 +87,7 @@ pub fn is_refused<H: Files + Input + Alloc<A = Global>>(rt: &H, file: &str) -> b
     if !fs::metadata(rt, file).is_ok_and(|metadata| metadata.is_file()) {
         return false;
     }
-    let checked = read_file(rt, file).map(|text| check(rt.alloc(), text.as_slice(), None));
+    let text = read_file(rt, file, MOST_READ);
+    let checked = text.map(|text| check(rt.alloc(), text.as_slice(), None));
     matches!(checked, Ok(Ok(Checked::Refused(_))))
 }

@@ -1,7 +1,6 @@
-//! The commands, each from the command words to the bytes that are written and the status.
+//! The commands, each from what is asked for to the bytes that are written and the status.
 
-use crate::checks::{is_refused, serve_check};
-use crate::files::guest_text;
+use crate::checks::serve_check;
 use crate::forms::{Html, Json};
 use crate::joins::join_files;
 use crate::prefixes::list_prefixes;
@@ -9,42 +8,16 @@ use crate::suites::serve_suite;
 use crate::under::search_under;
 use crate::verified::verify_guest;
 use ctxbound_answers::{
-    CommandFault, ExplainForm, ExplainRequest, Fault, Host, JoinRequest, PrefixesRequest, Printed,
-    REFUSED, Request, TextFormat, UnderRequest, VerifyRequest, answer_to, explain_text, serve_file,
-    write_printed,
+    CommandFault, ExplainForm, ExplainRequest, Fault, Host, JoinRequest, MOST_READ,
+    PrefixesRequest, Printed, Request, TextFormat, UnderRequest, VerifyRequest, explain_text,
+    read_file, serve_file, write_printed,
 };
-use ctxbound_words::parse_request;
 use std::fs::Files;
 use std::io::{Input, Write};
 
-/// Does what the words of a command line ask for: the answer goes to `out`, the lines of faults to
-/// `err`. If `is_seen`, a person reads `err`: where a guest's text is refused, it is also told
-/// which command says more. Answers the status that the program ends with.
-pub fn serve_command<H: Host + Files + Input + Clone + Drop, W: Write, E: Write>(
-    rt: &H,
-    words: &[String],
-    is_seen: bool,
-    out: &mut W,
-    err: &mut E,
-) -> u8 {
-    let request = match parse_request(rt.alloc(), words) {
-        Ok(request) => request,
-        Err(fault) => return fault.report(err),
-    };
-    let status = serve_request(rt, &request, out, err);
-    if is_seen
-        && status == REFUSED
-        && let Some(file) = request.file_to_check()
-        && is_refused(rt, file)
-    {
-        let _ = writeln!(err, "(ctxbound check {file} says more)");
-    }
-    status
-}
-
-// Does what a request asks for, with the answer to `out` and the lines of faults to `err`. Answers
-// the status that the program ends with.
-fn serve_request<H: Host + Files + Input + Clone + Drop, W: Write, E: Write>(
+/// Does what a request asks for, with the answer to `out` and the lines of faults to `err`. Answers
+/// the status that the program ends with.
+pub fn serve_request<H: Host + Files + Input + Clone + Drop, W: Write, E: Write>(
     rt: &H,
     request: &Request,
     out: &mut W,
@@ -59,9 +32,9 @@ fn serve_request<H: Host + Files + Input + Clone + Drop, W: Write, E: Write>(
         | Request::Prefixes(PrefixesRequest { file, .. })
         | Request::Under(UnderRequest { file, .. })
         | Request::Join(JoinRequest { file, .. }) => {
-            let printed = match guest_text(rt, file.as_str()) {
+            let printed = match read_file(rt, file.as_str(), MOST_READ) {
                 Ok(text) => answer_for(rt, request, text.as_slice(), out),
-                Err(fault) => Err(fault),
+                Err(error) => Err(CommandFault::Device(file.as_str(), error)),
             };
             write_printed(printed, out, err)
         }
@@ -77,7 +50,6 @@ fn answer_for<'a, H: Host + Files + Input, W: Write>(
     out: &mut W,
 ) -> Result<Printed, CommandFault<'a>> {
     let printed = match request {
-        Request::Guest { request, .. } => answer_to(rt, request, text),
         Request::Explain(request, ExplainForm::Text { width, steps }) => {
             let (width, steps) = (*width, *steps);
             explain_text(rt, text, request, &TextFormat { width, steps })
@@ -88,7 +60,7 @@ fn answer_for<'a, H: Host + Files + Input, W: Write>(
         Request::Prefixes(request) => list_prefixes(rt.alloc(), text, request),
         Request::Under(request) => search_under(rt, text, request),
         Request::Join(request) => return join_files(rt, text, request),
-        Request::Check(_) | Request::Suite(_) => Err(Fault::File),
+        Request::Guest { .. } | Request::Check(_) | Request::Suite(_) => Err(Fault::File),
     };
     Ok(printed?)
 }

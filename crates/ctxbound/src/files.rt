@@ -1,6 +1,6 @@
 //! The files of guest programs that the command words name.
 
-use ctxbound_answers::{CommandFault, read_file};
+use ctxbound_answers::{MOST_READ, read_file};
 use std::alloc::{Alloc, AllocError, Global};
 use std::fs::Files;
 use std::io::{ErrorKind, Input};
@@ -30,23 +30,8 @@ impl GuestFile {
     pub fn read<H: Files + Input + Alloc<A = Global>>(&self, rt: &H) -> io::Result<Vec<u8>> {
         match self.error {
             Some(error) => Err(error),
-            None => read_file(rt, self.name.as_str()),
+            None => read_file(rt, self.name.as_str(), MOST_READ),
         }
-    }
-}
-
-/// The text of the guest program in a file, or on standard input where `file` is `-`.
-///
-/// # Errors
-///
-/// Why the file can't be read, with its name.
-pub fn guest_text<'a, H>(rt: &H, file: &'a str) -> Result<Vec<u8>, CommandFault<'a>>
-where
-    H: Files + Input + Alloc<A = Global>,
-{
-    match read_file(rt, file) {
-        Ok(text) => Ok(text),
-        Err(error) => Err(CommandFault::Device(file, error)),
     }
 }
 

@@ -5,7 +5,7 @@ ghost use Rattle.std.specs.Arc.{arc_value};
 ghost use Rattle.runner_joining.specs.Parts.{JoinErrorMeans};
 ghost use Rattle.ctxbound.specs.Joins.{IsJoined, error_status};
 
-use ctxbound_answers::{CommandFault, Fault, JoinRequest, Printed, REFUSED, read_bytes};
+use ctxbound_answers::{CommandFault, Fault, JoinRequest, Printed, REFUSED, read_file};
 use guest_code::program::Program;
 use replay::schedule_text;
 use runner::program_of;
@@ -57,7 +57,7 @@ fn push_parts<'a, H: Files + Input + Alloc<A = Global>>(
     file: &'a str,
 ) -> Result<(), CommandFault<'a>> {
     let alloc = rt.alloc();
-    let lines = read_bytes(rt, file, u64::MAX).map_err(|error| CommandFault::Device(file, error))?;
+    let lines = read_file(rt, file, u64::MAX).map_err(|error| CommandFault::Device(file, error))?;
     let line = match parts_from(alloc, lines.as_slice()) {
         Ok(found) => match first_of_another(found.as_slice(), text) {
             None => return Ok(parts.extend(found)?),

@@ -18,21 +18,30 @@ mod suites;
 mod under;
 mod verified;
 
-use crate::commands::serve_command;
-use ctxbound_words::command_words;
-use std::io::IsTerminal;
+use crate::checks::is_refused;
+use crate::commands::serve_request;
+use ctxbound_answers::REFUSED;
+use ctxbound_words::read_request;
+use std::io::{IsTerminal, Write};
 use std::process::ExitCode;
 
-// Does what the command line asks for, or reports why it can't be read, and ends with the status.
+// Does what the command line asks for, or tells why it asks for nothing, and ends with the status.
+// Where a guest's text is refused, and a person reads standard error, the person is also told which
+// command says more.
 fn main(rt: HostRuntime) -> ExitCode {
     let mut out = rt.stdout();
     let mut err = rt.stderr();
-    let status = match command_words(&rt) {
-        Ok(words) => {
-            let is_seen = err.is_terminal();
-            serve_command(&rt, words.as_slice(), is_seen, &mut out, &mut err)
-        }
-        Err(fault) => fault.report(&mut err),
+    let request = match read_request(&rt) {
+        Ok(request) => request,
+        Err(fault) => return ExitCode::from(fault.report(&mut err)),
     };
+    let status = serve_request(&rt, &request, &mut out, &mut err);
+    if status == REFUSED
+        && err.is_terminal()
+        && let Some(file) = request.file_to_check()
+        && is_refused(&rt, file)
+    {
+        let _ = writeln!(err, "(ctxbound check {file} says more)");
+    }
     ExitCode::from(status)
 }

@@ -12,7 +12,7 @@ use crate::exploration::{Exploration, has_equal_threads, once_words};
 use crate::fault::{Fault, REFUSED};
 use crate::host::Host;
 use crate::request::ExplainRequest;
-use explain_run::{Explanation, Source, name_text};
+use explain_run::{Explanation, Source};
 use explain_text::{Layout, explanation_text, run_out_lines};
 use explain_told::Told;
 use guest_code::lowering::lower;
@@ -91,10 +91,17 @@ pub fn explain_text<H: Host, T: Render>(
         program: &program,
         map: &map,
     };
-    Ok(Printed {
-        output: explained.output(alloc, &source, renderer)?,
-        status: explained.status(),
-    })
+    let status = explained.status();
+    let (explanation, search) = match &explained {
+        Explained::Asked(explanation) => (explanation, None),
+        Explained::Found(report, explanation) => (explanation, Some(report)),
+        Explained::NoneFound(report) => {
+            let output = renderer.no_schedule(alloc, request.file.as_str(), report)?;
+            return Ok(Printed { output, status });
+        }
+    };
+    let output = renderer.explanation(&Told::new(alloc, explanation, &source)?, search)?;
+    Ok(Printed { output, status })
 }
 
 /// Which loops of the program that a text spells ran out of turns where a schedule of it failed: a
@@ -159,33 +166,14 @@ impl Explained {
         let alloc = rt.alloc();
         let Some(schedule) = &request.schedule else {
             let report = search_report(rt, program, request.search)?;
-            return Ok(Explained::of_report(alloc, program, report)?);
+            let Some(steps) = report.schedule() else {
+                return Ok(Explained::NoneFound(report));
+            };
+            let explanation = Explanation::new(alloc, program, steps)?;
+            return Ok(Explained::Found(report, explanation));
         };
         let steps = schedule_from(alloc, schedule.as_bytes())?;
         Ok(Explained::Asked(Explanation::new(alloc, program, steps.as_slice())?))
-    }
-
-    // Explains the schedule that the report of a search names, if it names one.
-    fn of_report(alloc: Global, program: &Program, report: Report) -> Result<Explained, AllocError>
-        ensures { IfOk result (IsOfReport program.now report) }
-    {
-        let Some(steps) = report.schedule() else {
-            return Ok(Explained::NoneFound(report));
-        };
-        let explanation = Explanation::new(alloc, program, steps)?;
-        Ok(Explained::Found(report, explanation))
-    }
-
-    // What is printed, in the format of `renderer`; `source` has the program that is explained.
-    fn output<T: Render>(&self, alloc: Global, source: &Source<'_>, renderer: &T) -> Output {
-        let (explanation, search) = match self {
-            Explained::Asked(explanation) => (explanation, None),
-            Explained::Found(report, explanation) => (explanation, Some(report)),
-            Explained::NoneFound(report) => {
-                return renderer.no_schedule(alloc, name_text(source.file), report);
-            }
-        };
-        renderer.explanation(&Told::new(alloc, explanation, source)?, search)
     }
 
     // The status that `ctxbound` ends with: that of the explanation, or, where the search found no

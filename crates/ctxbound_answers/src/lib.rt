@@ -15,7 +15,7 @@
 //!   which, and the status. [`Render`] is the trait of a format of explanations;
 //!   [`TextFormat`] is that for a terminal.
 //! - A [`CommandFault`] is why a command printed nothing. Unlike a [`Fault`] it may name the file
-//!   or the stream that failed. [`read_file`] reads the text of a file for such a command, and
+//!   or the stream that failed. [`read_file`] reads a file for such a command, and
 //!   [`write_printed`] writes what the command prints.
 //! - A [`Host`] is what a search needs of the system. [`ProgressGate`] is the gate of a search: where
 //!   it is asked to, it tells how far the search is.
@@ -46,6 +46,6 @@ pub use request::{
     JoinRequest, PrefixesRequest, Request, SuiteRequest, UnderRequest, VerifyRequest,
 };
 pub use serving::{
-    STANDARD_OUTPUT, exit_status, is_standard_input, read_bytes, read_file, serve, serve_file,
+    MOST_READ, STANDARD_OUTPUT, exit_status, is_standard_input, read_file, serve, serve_file,
     write_out, write_printed,
 };

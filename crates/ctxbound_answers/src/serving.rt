@@ -19,7 +19,7 @@ pub const STANDARD_OUTPUT: &str = "standard output";
 
 /// How much is read of a guest program: one byte more than a program may have, which is enough to
 /// see that a text is too long.
-const MOST_READ: u64 = TEXT_BYTES as u64 + 1;
+pub const MOST_READ: u64 = TEXT_BYTES as u64 + 1;
 
 // Reads the text of a guest program from `input`, up to `MOST_READ` bytes.
 fn read_text<R: Read>(alloc: Global, input: &mut R) -> io::Result<Vec<u8>>
@@ -112,22 +112,13 @@ pub fn serve_file<H: Host + Files + Input, W: Write, E: Write>(
     exit_status(served, err)
 }
 
-/// The text of the guest program in a file, or on standard input where `file` is `-`: at most one
-/// byte more than a program may have, which is enough to see that a text is too long.
+/// The first bytes of a file, or of standard input where `file` is `-`, at most `most` of them:
+/// [`MOST_READ`] of a guest program.
 ///
 /// # Errors
 ///
 /// The error of the file or of standard input, where it can't be read.
-pub fn read_file<H: Files + Input + Alloc<A = Global>>(rt: &H, file: &str) -> io::Result<Vec<u8>> {
-    read_bytes(rt, file, MOST_READ)
-}
-
-/// The first bytes of a file, or of standard input where `file` is `-`, at most `most` of them.
-///
-/// # Errors
-///
-/// The error of the file or of standard input, where it can't be read.
-pub fn read_bytes<H>(rt: &H, file: &str, most: u64) -> io::Result<Vec<u8>>
+pub fn read_file<H>(rt: &H, file: &str, most: u64) -> io::Result<Vec<u8>>
 where
     H: Files + Input + Alloc<A = Global>,
 {

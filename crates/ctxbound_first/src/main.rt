@@ -5,8 +5,8 @@
 
 use ctxbound_answers::{
     CommandFault, DEFAULT_LIMIT, DEFAULT_STEPS, DEFAULT_WIDTH, ExplainRequest, Exploration,
-    GuestRequest, Host, Printed, REFUSED, TextFormat, explain_text, read_file, serve_file,
-    write_printed,
+    GuestRequest, Host, MOST_READ, Printed, REFUSED, TextFormat, explain_text, read_file,
+    serve_file, write_printed,
 };
 use runner::{BOUND, Options, Search};
 use std::fs::Files;
@@ -72,7 +72,7 @@ fn explain_file<'a, H: Host + Files + Input>(
     request: &'a ExplainRequest,
 ) -> Result<Printed, CommandFault<'a>> {
     let file = request.file.as_str();
-    let text = read_file(rt, file).map_err(|error| CommandFault::Device(file, error))?;
+    let text = read_file(rt, file, MOST_READ).map_err(|error| CommandFault::Device(file, error))?;
     let form = TextFormat {
         width: DEFAULT_WIDTH as usize,
         steps: DEFAULT_STEPS as usize,

@@ -1,6 +1,6 @@
 //! The command words of the program: what they ask for, or why they ask for nothing.
 //!
-//! - [`command_words`] are those that the system gave, [`parse_request`] says what they ask for.
+//! - [`read_request`] reads those that the system gave, and says what they ask for.
 //! - [`WordsFault`] is why they ask for nothing, what the user is told, and the status.
 #![tactic(auto)]
 
@@ -9,4 +9,4 @@ mod fault;
 mod reading;
 
 pub use fault::WordsFault;
-pub use reading::{command_words, parse_request};
+pub use reading::read_request;

@@ -26,15 +26,6 @@ const DEFAULT_DEPTH: u64 = 100_000;
 /// processors each gets eight, so that all are busy until near the end.
 const DEFAULT_PREFIXES: u32 = 64;
 
-/// The command words that the system gave the program. The first is the program's own name.
-///
-/// # Errors
-///
-/// `NotUtf8` where a word isn't UTF-8, `OutOfMemory` where memory runs out.
-pub fn command_words<R: Env + Alloc<A = Global>>(rt: &R) -> Result<Vec<String>, WordsFault> {
-    Ok(std::env::args(rt)?.collect(rt.alloc())?)
-}
-
 /// A command and the arguments that it is given. One that the command doesn't take counts as not
 /// given.
 #[derive(Clone, Copy)]
@@ -153,9 +144,9 @@ impl CommandArguments<'_, '_> {
         })
     }
 
-    fn explain_request(&self, file: String) -> Result<ExplainRequest, AllocError> {
+    fn explain_request(&self) -> Result<ExplainRequest, AllocError> {
         Ok(ExplainRequest {
-            file,
+            file: self.text("FILE")?,
             schedule: match self.args.get_str("SCHEDULE") {
                 Some(schedule) => Some(String::from_str(self.alloc, schedule)?),
                 None => None,
@@ -202,7 +193,8 @@ impl CommandArguments<'_, '_> {
     }
 
     // Refused where standard input is named both for the guest program and for parts.
-    fn join_request(&self, file: String) -> Result<JoinRequest, WordsFault> {
+    fn join_request(&self) -> Result<JoinRequest, WordsFault> {
+        let file = self.text("FILE")?;
         let mut parts = self.args.get_strs("PART").unwrap_or(&[]).iter();
         if is_standard_input(file.as_str()) && parts.any(|part| is_standard_input(part)) {
             return Err(WordsFault::Clap(standard_input_twice(self.alloc)?));
@@ -214,56 +206,52 @@ impl CommandArguments<'_, '_> {
         })
     }
 
-    // The request that the command makes with these arguments.
+    // The request that the command makes with these arguments. The bound of `verify` is the
+    // greatest, since no argument sets it.
     fn request(&self) -> Result<Request, WordsFault> {
-        match self.name {
-            "check" => Ok(Request::Check(self.check_request()?)),
-            "suite" => Ok(Request::Suite(SuiteRequest {
+        Ok(match self.name {
+            "check" => Request::Check(self.check_request()?),
+            "suite" => Request::Suite(SuiteRequest {
                 files: self.texts("FILE")?,
                 limits: self.limits(self.bound()),
                 json: self.flag("json"),
-            })),
-            _ => self.request_on(self.text("FILE")?),
-        }
-    }
-
-    // The request of a command on the guest program in this file. The bound of `verify` is the
-    // greatest, since no argument sets it.
-    fn request_on(&self, file: String) -> Result<Request, WordsFault> {
-        Ok(match self.name {
+            }),
             "verify" => Request::Verify(VerifyRequest {
-                file,
+                file: self.text("FILE")?,
                 limits: self.limits(BOUND),
             }),
             "prefixes" => Request::Prefixes(PrefixesRequest {
-                file,
+                file: self.text("FILE")?,
                 at_least: self.number("at-least", DEFAULT_PREFIXES),
                 is_pruned: self.flag("unbounded"),
             }),
-            "join" => Request::Join(self.join_request(file)?),
-            "explain" => Request::Explain(self.explain_request(file)?, self.explain_form()),
+            "join" => Request::Join(self.join_request()?),
+            "explain" => Request::Explain(self.explain_request()?, self.explain_form()),
             _ if self.args.get_str("under").is_some() => Request::Under(UnderRequest {
-                file,
+                file: self.text("FILE")?,
                 prefix: self.text("under")?,
                 search: self.exploration(),
             }),
             _ => Request::Guest {
-                file,
+                file: self.text("FILE")?,
                 request: self.guest_request()?,
             },
         })
     }
 }
 
-/// Parses the words of the command line, the first of which is the program's own name, into the
-/// request that they make. The default `replay` is never taken: `clap` demands a subcommand.
+/// Reads the words of the command line that the system gave the program, the first of which is its
+/// own name, and answers the request that they make. The default `replay` is never taken: `clap`
+/// demands a subcommand.
 ///
 /// # Errors
 ///
-/// What `clap` says of the words, a request for help or for the version included, or
-/// `OutOfMemory`.
-pub fn parse_request(alloc: Global, words: &[String]) -> Result<Request, WordsFault> {
-    let matches = ctxbound_command(alloc)?.try_get_matches_from(words)?;
+/// What `clap` says of the words, a request for help or for the version included; `NotUtf8` where a
+/// word isn't UTF-8, `OutOfMemory` where memory runs out.
+pub fn read_request<R: Env + Alloc<A = Global>>(rt: &R) -> Result<Request, WordsFault> {
+    let alloc = rt.alloc();
+    let words: Vec<String> = std::env::args(rt)?.collect(alloc)?;
+    let matches = ctxbound_command(alloc)?.try_get_matches_from(words.as_slice())?;
     let (name, args) = matches.subcommand().unwrap_or(("replay", &matches));
     CommandArguments { alloc, name, args }.request()
 }

@@ -246,19 +246,10 @@ fn update_used(used: &mut [bool; LOCALS], event: &Event, needed: bool)
         ≡ ((needed && uses_value r event.now.statement)
         || (not (is r (local_set event.now.statement)) && slice_index_or used.old r false)) }
 {
+    let set = event.local_set();
     for r in 0..LOCALS {
-        used[r] = is_local_used(event, r, needed, used[r]);
+        used[r] = needed && reads(r, &event.statement) || !is_some_of(r, set) && used[r];
     }
-}
-
-// Whether an event of the cause uses the value that a local of the thread of `event` has before
-// `event`. `needed` says whether `event` is in the cause, `after` whether an event of the cause
-// uses the value that the local has after `event`.
-fn is_local_used(event: &Event, local: usize, needed: bool, after: bool) -> bool
-    ensures { result ≡ ((needed && uses_value local event.now.statement)
-        || (not (is local (local_set event.now.statement)) && after)) }
-{
-    needed && reads(local, &event.statement) || !is_some_of(local, event.local_set()) && after
 }
 
 // Updates `next`, which says of each variable whether a thread's next use of it is in the cause, by
