@@ -65,8 +65,8 @@ impl Fault<'_> {
         }
     }
 
-    // Whether an instruction sets a local of the expression of which tests agree.
-    fn sets_read(self, instruction: &Instruction) -> bool {
+    // Whether an instruction sets a local of the expression whose tests agree.
+    fn sets_tested_local(self, instruction: &Instruction) -> bool {
         match (self.test, local_set(instruction)) {
             (Some(test), Some(local)) => expression_reads(local, test),
             _ => false,
@@ -84,7 +84,7 @@ impl Fault<'_> {
             return (!owns).then_some(way);
         }
         let owns = self.owns_after(place, instruction, owns)?;
-        let is_set = self.sets_read(instruction);
+        let is_set = self.sets_tested_local(instruction);
         let leads = |place: usize| leading_way(after, place, owns, holds, is_set);
         let next = place.saturating_add(1);
         let jump = next.saturating_add(skip_of(instruction));

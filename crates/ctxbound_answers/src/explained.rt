@@ -5,7 +5,7 @@ ghost use Rattle.std.specs.Arc.{arc_value};
 ghost use Rattle.guest_code.specs.SourceMap.{IsMapOf};
 ghost use Rattle.runner_report.specs.Texts.{IsProgramOf, ExploreErrorMeans};
 ghost use Rattle.runner_report.specs.declared.error.ExploreError.TheVariants.{OutOfMemory};
-ghost use Rattle.ctxbound_answers.specs.Explained.{ExplainMeans, ExplainFaultMeans, IsExplained, IsOfReport, asked, explained_status, told_status, IsSearched, is_followed, is_open, told_report};
+ghost use Rattle.ctxbound_answers.specs.Explained.{ExplainMeans, ExplainFaultMeans, IsExplained, asked, explained_status, told_status, IsSearched, is_followed, is_open, told_report};
 
 use crate::answer::{Printed, replay_status, verdict_status};
 use crate::exploration::{Exploration, has_equal_threads, once_words};

@@ -83,8 +83,6 @@ pub struct CheckRequest {
     pub strict: bool,
     /// How many schedules are gone through at most for deeper warnings, where these are asked for.
     pub depth: Option<u64>,
-    /// Whether remarks, on what need not be wrong, are told along with deeper warnings.
-    pub remarks: bool,
     pub form: CheckForm,
 }
 

@@ -187,7 +187,6 @@ impl CommandArguments<'_, '_> {
             files: self.texts("FILE")?,
             strict: self.flag("strict"),
             depth: self.flag("deep").then_some(depth),
-            remarks: self.flag("remarks"),
             form,
         })
     }

@@ -37,9 +37,6 @@ impl<S: Serializer> Writer<'_, S> {
         let holder = mutex.and_then(|m| told.holder_before(at, m));
         let since = mutex.and_then(|m| told.causes.last_owner_change(at, m));
         let since = since.and_then(|place| told.event(place)?.step);
-        let ran = event.step.map_or(0, |step| step.saturating_add(1));
-        let steps = told.explanation.steps().iter().take(ran);
-        let preempting = steps.filter(|step| step.line.preempting);
         self.token(Token::Object);
         self.put_place(statement);
         self.put("mutex", mutex.map(|m| told.object_name(Object::Mutex(m))));
@@ -48,7 +45,7 @@ impl<S: Serializer> Writer<'_, S> {
             "owner",
             holder.map(|holder| told.thread_name(holder.thread)),
         );
-        self.put("preemptions", preempting.count());
+        self.put("preemptions", told.preemptions_up_to(event));
         self.put_repeats(at);
         self.put("since", since);
         self.put("step", event.step);
@@ -77,25 +74,30 @@ impl<S: Serializer> Writer<'_, S> {
     }
 
     // Writes the list `values`: the locals of an assertion, the event at place `at` of the run,
-    // each once, with its value and where that came from. The thread stopped there, so the value is
-    // that from the end of what ran. The list is empty where the event is no assertion.
+    // each once. The list is empty where the event is no assertion.
     fn put_assertion_values(&mut self, at: usize, event: &Event) {
-        let told = self.facts.told;
-        let locals = match event.statement {
-            Instruction::Assert(test) => locals_of(test),
-            _ => [None, None],
-        };
         self.begin_list("values");
-        for local in locals.into_iter().flatten() {
-            let state = told.explanation.thread_state(event.thread);
-            let value = state.and_then(|state| state.locals.get(local));
-            self.token(Token::Object);
-            self.put("local", told.local_name(event.thread, local));
-            self.put_origins(at, event.thread, local);
-            self.put("value", value.copied().unwrap_or(0));
-            self.token(Token::ObjectEnd);
+        if let Instruction::Assert(test) = event.statement {
+            for local in &locals_of(test) {
+                if let Some(local) = *local {
+                    self.put_assertion_value(at, event.thread, local);
+                }
+            }
         }
         self.token(Token::ListEnd);
+    }
+
+    // Writes a local of an assertion with its value and where that came from. The thread stopped
+    // there, so the value is that from the end of what ran.
+    fn put_assertion_value(&mut self, at: usize, thread: u8, local: usize) {
+        let told = self.facts.told;
+        let state = told.explanation.thread_state(thread);
+        let value = state.and_then(|state| state.locals.get(local));
+        self.token(Token::Object);
+        self.put("local", told.local_name(thread, local));
+        self.put_origins(at, thread, local);
+        self.put("value", value.copied().unwrap_or(0));
+        self.token(Token::ObjectEnd);
     }
 
     /// Writes the list `tests`: an object for each test in the cause, in the order in which they were
@@ -120,26 +122,34 @@ impl<S: Serializer> Writer<'_, S> {
     }
 
     // Writes the list `origins`: the statements from which a thread's local has its value before
-    // the event at place `at` of the run, in the order in which they were carried out. Of one that
-    // uses a variable, also since which step that was as it found it, and which step changed it
-    // next.
+    // the event at place `at` of the run, in the order in which they were carried out.
     fn put_origins(&mut self, at: usize, thread: u8, local: usize) {
         let told = self.facts.told;
         let origins = self.allocated(told.origins(at, thread, local));
         self.begin_list("origins");
-        let events = told.causes.events();
-        for event in origins.iter().flatten().filter_map(|at| events.get(*at)) {
-            let statement = told.statement(event.thread, event.instruction);
-            self.token(Token::Object);
-            self.put("changed", told.next_change(event));
-            self.put_place(statement);
-            self.put("name", told.thread_name(event.thread));
-            self.put("since", told.unchanged_since(event));
-            self.put("step", event.step);
-            self.put_text("text", statement);
-            self.put_turns(statement);
-            self.token(Token::ObjectEnd);
+        if let Some(origins) = origins {
+            for place in &origins {
+                if let Some(event) = told.event(*place) {
+                    self.put_origin(&event);
+                }
+            }
         }
         self.token(Token::ListEnd);
+    }
+
+    // Writes an event from which a local has its value; of one that uses a variable, also since
+    // which step that was as it found it, and which step changed it next.
+    fn put_origin(&mut self, event: &Event) {
+        let told = self.facts.told;
+        let statement = told.statement(event.thread, event.instruction);
+        self.token(Token::Object);
+        self.put("changed", told.next_change(event));
+        self.put_place(statement);
+        self.put("name", told.thread_name(event.thread));
+        self.put("since", told.unchanged_since(event));
+        self.put("step", event.step);
+        self.put_text("text", statement);
+        self.put_turns(statement);
+        self.token(Token::ObjectEnd);
     }
 }

@@ -147,11 +147,13 @@ impl<S: Serializer> Writer<'_, S> {
             return;
         }
         self.begin_list("turns");
-        for (turn, of) in (0..turns.len()).filter_map(|number| turns.get(number)) {
-            self.token(Token::Object);
-            self.put("of", of);
-            self.put("turn", turn);
-            self.token(Token::ObjectEnd);
+        for number in 0..turns.len() {
+            if let Some((turn, of)) = turns.get(number) {
+                self.token(Token::Object);
+                self.put("of", of);
+                self.put("turn", turn);
+                self.token(Token::ObjectEnd);
+            }
         }
         self.token(Token::ListEnd);
     }

@@ -96,21 +96,44 @@ impl TextWriter<'_> {
         if last.is_some_and(|last| self.decides(test, &last)) {
             return page.write("came here");
         }
-        let all = self.told.causes.events().iter().copied().enumerate();
-        let led = all
-            .skip(at.saturating_add(1))
-            .filter(|(place, event)| self.is_event_in_cause(*place) && self.decides(test, event))
-            .min_by_key(|(_, event)| is_test(event));
-        let first = test.instruction.saturating_add(1);
-        let mut passed = first..first.saturating_add(test.jump_length());
-        let passed = passed.find(|place| self.writes_one(test.thread, *place, read));
-        if let Some((_, event)) = led
-            && (passed.is_none() || !is_test(&event))
-        {
-            return write!(page, "{name} came to {},", self.event_site(&event));
+        let passed = self.passed_write(test, read);
+        match self.next_decided(at, test) {
+            Some(event) if passed.is_none() || !is_test(&event) => {
+                write!(page, "{name} came to {},", self.event_site(&event))
+            }
+            _ => {
+                let first = test.instruction.saturating_add(1);
+                let site = self.site(test.thread, passed.unwrap_or(first));
+                write!(page, "{name} passed by {site},")
+            }
         }
-        let passed = self.site(test.thread, passed.unwrap_or(first));
-        write!(page, "{name} passed by {passed},")
+    }
+
+    // The next event of the cause after the test at a place that the test decides, or the first such
+    // test where all of them are tests.
+    fn next_decided(&self, at: usize, test: &Event) -> Option<Event> {
+        let mut first = None;
+        for place in at.saturating_add(1)..self.told.causes.events().len() {
+            let event = self.told.event(place)?;
+            if self.is_event_in_cause(place) && self.decides(test, &event) {
+                if !is_test(&event) {
+                    return Some(event);
+                }
+                first = first.or(Some(event));
+            }
+        }
+        first
+    }
+
+    // The first instruction that a test jumps over which writes one of these variables, or may.
+    fn passed_write(&self, test: &Event, variables: &BTreeSet<usize>) -> Option<usize> {
+        let first = test.instruction.saturating_add(1);
+        for place in first..first.saturating_add(test.jump_length()) {
+            if self.writes_one(test.thread, place, variables) {
+                return Some(place);
+            }
+        }
+        None
     }
 
     // Whether the instruction of this number of a thread writes, or may write, one of these variables.

@@ -187,17 +187,16 @@ impl TextWriter<'_> {
     }
 
     fn put_enabled(&self, page: &mut Page) -> Written {
-        let mut names = String::new(self.told.alloc);
+        page.write("Could go on: ")?;
+        let mut separator = "";
         for t in 0..self.told.source.program.threads() {
             let standing = self.told.explanation.thread_state(t);
             if standing.is_some_and(|standing| standing.is_enabled()) {
-                push_entry(
-                    &mut names,
-                    format_args!("{} ({t})", self.told.thread_name(t)),
-                )?;
+                write!(page, "{separator}{} ({t})", self.told.thread_name(t))?;
+                separator = ", ";
             }
         }
-        write!(page, "Could go on: {names}")
+        Ok(())
     }
 
     fn put_refused_step(&self, page: &mut Page, thread: u8) -> Written {

@@ -49,20 +49,28 @@ impl TextWriter<'_> {
             let cell = self.end_cell_width(thread)?;
             contents.push(Content { name, cell })?;
         }
+        self.widen_for_steps(contents.as_mut_slice())?;
+        Ok(contents)
+    }
+
+    // Widens the cells of threads to what they say of steps that have rows of their own.
+    fn widen_for_steps(&self, contents: &mut [Content]) -> Written {
         let mut seen = BTreeSet::new(self.told.alloc);
         for (at, step) in self.told.explanation.steps().iter().enumerate() {
-            let (thread, instruction) = (step.line.thread, step.instruction);
-            let is_shown = !self.is_left_out(at) && self.has_own_row(at);
-            if is_shown
-                && seen.insert((thread, instruction))?
+            let thread = step.line.thread;
+            if !self.is_left_out(at)
+                && self.has_own_row(at)
+                && seen.insert((thread, step.instruction))?
                 && let Some(content) = contents.get_mut(thread as usize)
             {
-                let retakes = matches!(step.line.act, Act::Retake(_));
-                let action = self.action_text(thread, instruction, retakes)?;
-                content.cell = width_of(action.as_str()).max(content.cell);
+                content.cell = self.step_cell_width(step)?.max(content.cell);
             }
         }
-        Ok(contents)
+        Ok(())
+    }
+
+    fn step_cell_width(&self, step: &Step) -> Result<usize, AllocError> {
+        Ok(width_of(self.step_text(step)?.as_str()))
     }
 
     // The columns of a thread's widest cell where it is blocked in a deadlock, or else of `assert`.
@@ -79,16 +87,20 @@ impl TextWriter<'_> {
 
     /// The columns of the widest cell of a line, as `worker.inc:12`; 0 without any.
     pub fn line_cell_width(&self) -> Result<usize, AllocError> {
-        let steps = self.told.explanation.steps().iter();
-        let threads = 0..self.told.source.program.threads();
-        let places = steps.map(|step| (step.line.thread, step.instruction));
-        let places = places.chain(threads.map(|t| (t, self.instruction_at_end(t))));
         let mut widest = 0;
-        for (thread, instruction) in places {
-            let cell = line_cell(self.told.alloc, self.told.line(thread, instruction))?;
-            widest = width_of(cell.as_str()).max(widest);
+        for step in self.told.explanation.steps() {
+            widest = self.line_width(step.line.thread, step.instruction)?.max(widest);
+        }
+        for thread in 0..self.told.source.program.threads() {
+            let at_end = self.instruction_at_end(thread);
+            widest = self.line_width(thread, at_end)?.max(widest);
         }
         Ok(widest)
+    }
+
+    fn line_width(&self, thread: u8, instruction: usize) -> Result<usize, AllocError> {
+        let cell = line_cell(self.told.alloc, self.told.line(thread, instruction))?;
+        Ok(width_of(cell.as_str()))
     }
 
     /// The thread that took the step at a place of the schedule; `None` where no step ran there.
@@ -246,8 +258,7 @@ impl TextWriter<'_> {
             return Ok(());
         };
         let thread = step.line.thread;
-        let retakes = matches!(step.line.act, Act::Retake(_));
-        let action = self.action_text(thread, step.instruction, retakes)?;
+        let action = self.step_text(step)?;
         let mut row = format!(in self.told.alloc; "{at:>4}")?;
         self.put_action(&mut row, thread, step.instruction, action.as_str())?;
         self.put_changes(page, at, step)?;

@@ -2,10 +2,10 @@
 
 use explain_cause::{Event, InTurns};
 use explain_lines::{Columns, FileLine, InLine, Page, Written, shell_quoted};
-use explain_run::{Object, Statement};
+use explain_run::{Object, Statement, Step};
 use explain_told::Told;
 use guest_code::program::Instruction;
-use replay::schedule_text;
+use replay::{Act, schedule_text};
 use std::alloc::{AllocError, Global};
 use std::fmt;
 use std::str::from_utf8;
@@ -160,6 +160,12 @@ impl<'a> TextWriter<'a> {
     /// The statement of an event, with the name of its thread and the line.
     pub fn event_site(&self, event: &Event) -> Site<'_> {
         self.site(event.thread, event.instruction)
+    }
+
+    /// As text, what the thread of a step did in it.
+    pub fn step_text(&self, step: &Step) -> Result<String, AllocError> {
+        let retakes = matches!(step.line.act, Act::Retake(_));
+        self.action_text(step.line.thread, step.instruction, retakes)
     }
 
     /// As text, the statement at instruction `at`; if a `wait` `retakes`, `retake` and its mutex.

@@ -101,6 +101,16 @@ impl<'a> Told<'a> {
         Some(Holder { thread, since })
     }
 
+    /// How many preemptions the run has up to the step of an event, that of the step included.
+    pub fn preemptions_up_to(&self, event: &Event) -> usize {
+        let ran = event.step.map_or(0, |step| step.saturating_add(1));
+        let mut preemptions = 0_usize;
+        for step in self.explanation.steps().iter().take(ran) {
+            preemptions = preemptions.saturating_add(usize::from(step.line.preempting));
+        }
+        preemptions
+    }
+
     /// The step since which the variable that an event uses was as the event found it; `None` where
     /// it was so from the start, or the event uses none.
     pub fn unchanged_since(&self, event: &Event) -> Option<usize> {
