@@ -14,7 +14,7 @@ use Rattle.walk_summary.specs.Summaries.{SummaryView, nothing, with_beyond, sum_
 use Rattle.walk_summary.proofs.SumsJoin.{sum_of_none}
 use Rattle.book.specs.Books.{BookView, Keeps, IsAtLastBound, Raises, bound_of, next_mode, opening_of}
 use Rattle.book.proofs.BoundedSums.{closed_sum, clean_kept_all}
-use Rattle.runner_report.specs.{Promises.IsSearch, declared.level.Level.Level}
+use Rattle.runner_report.specs.{Promises.{IsSearch, first_mode}, declared.level.Level.Level}
 use Rattle.runner_report.specs.declared.options.{Options.Options, Search.Search}
 use Rattle.runner_report.specs.declared.options.Search.TheVariants.{UpTo, Unbounded}
 use Rattle.runner_report.specs.declared.report.Cause.TheVariants.{Limit, Stopped}
@@ -23,7 +23,7 @@ use Rattle.runner.specs.Levels.{AreBelow}
 use Rattle.runner.specs.declared.{course.Course.Course, judge.Ending.Ending}
 use Rattle.runner.specs.declared.judge.Ending.TheVariants.{Whole, Cut}
 use Rattle.runner.specs.inner.Judging.{IsAt, AreKept, HasKept, level_at, begun, lists_at}
-use Rattle.runner.specs.inner.Judging.{bounds_left, first_mode, IsCourse, HasEnded, Ends}
+use Rattle.runner.specs.inner.Judging.{bounds_left, IsCourse, HasEnded, Ends}
 
 below : (last bound : ℕ) → bound ≤ last → (bound ≡ last → ⊥) → bound < last
 below last bound le ne = omega (arith, le, ne)

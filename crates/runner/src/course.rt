@@ -8,9 +8,9 @@ ghost use Rattle.walk_summary.specs.Summaries.{nothing, with_beyond};
 ghost use Rattle.walk_items.specs.Items.{ItemView, IsItem, root_of};
 ghost use Rattle.book.specs.Books.{Keeps, opening};
 ghost use Rattle.runner_report.specs.declared.error.ExploreError.TheVariants.{OutOfMemory};
-ghost use Rattle.runner_report.specs.Promises.{IsSearch};
+ghost use Rattle.runner_report.specs.Promises.{IsSearch, first_mode};
 ghost use Rattle.runner.specs.Levels.{IsModeOf, GoesOn, AreBelow, AreLevels};
-ghost use Rattle.runner.specs.inner.Judging.{IsAt, AreKept, HasKept, IsCourse, Ends, level_at, begun, bounds_left, first_mode, lists_at};
+ghost use Rattle.runner.specs.inner.Judging.{IsAt, AreKept, HasKept, IsCourse, Ends, level_at, begun, bounds_left, lists_at};
 
 use crate::judge::Ending;
 use crate::reports::run_of;
@@ -45,19 +45,6 @@ pub(crate) fn preemptions_of(alloc: Global, item: &Item) -> Result<u32, ExploreE
     programs_are_well_formed(program);
     let run = run_of(alloc, program, item.prefix())?;
     Ok(run.preemptions() as u32)
-}
-
-// The first mode in which a search under a prefix tries anything: at the bound of the prefix's own
-// preemptions, or, if the search is unbounded, by sleep sets; with equal threads once, or not.
-fn first_mode(once: bool, search: Search, preemptions: u32) -> Mode
-    ensures { result ≡ first_mode once search preemptions }
-{
-    match (search, once) {
-        (Search::UpTo(_), false) => Mode::Bounded(preemptions),
-        (Search::UpTo(_), true) => Mode::BoundedOnce(preemptions),
-        (Search::Unbounded, false) => Mode::Reduced,
-        (Search::Unbounded, true) => Mode::ReducedOnce,
-    }
 }
 
 // Whether a search keeps a list of the prefixes that walks in a mode defer, for the next bound to
@@ -110,7 +97,7 @@ pub(crate) fn begin_search(
     ensures error { IfErr result (λ e. e ≡ OutOfMemory) }
 {
     let program = Arc::try_clone(program)?;
-    let mode = first_mode(options.symmetry, options.search, 0);
+    let mode = options.search.first_mode(options.symmetry, 0);
     let mut book = open_book(alloc, program, mode, options.quick)?;
     begin_bound(&mut book, options.search);
     Ok(Course {
@@ -179,7 +166,7 @@ pub(crate) fn begin_search_under(
     ensures course { IfOk result (IsCourse item options true) }
     ensures error { IfErr result (λ e. e ≡ OutOfMemory) }
 {
-    let mode = first_mode(false, options.search, number);
+    let mode = options.search.first_mode(false, number);
     let levels = levels_below(alloc, options.search, number)?;
     let mut book = Book::open_under(alloc, item, mode)?;
     begin_bound(&mut book, options.search);

@@ -1,9 +1,8 @@
 //! What comes next after a round: another round, the next bound, or the end of the search.
 
-ghost use Rattle.std.specs.Prelude.{◌≡◌, ◌↔◌, IfSome, IfNone, IsTrue};
-ghost use Rattle.runner_report.specs.Reports.{IsCause};
+ghost use Rattle.std.specs.Prelude.{◌≡◌, ◌↔◌, IsTrue};
 ghost use Rattle.runner.specs.Levels.{IsLast, GoesOn};
-ghost use Rattle.runner.specs.inner.Judging.{HasNoCause, Comes, ending_cause};
+ghost use Rattle.runner.specs.inner.Judging.{Comes, ending_cause};
 
 use book::books::Book;
 use runner_report::{Cause, Options, Search};
@@ -64,21 +63,6 @@ pub(crate) fn needs_next_bound(search: Search, mode: Mode, summary: &Summary) ->
     summary.first_bad().is_none() && summary.beyond() && !is_last_mode(search, mode)
 }
 
-// Why a search is cut short after a round that leaves it without an answer: the gate `stopped` a
-// worker, or as many schedules as the limit are tried. `None` where it isn't cut short.
-fn cause_of(limit: Option<u64>, summary: &Summary, stopped: bool) -> Option<Cause>
-    ensures some { IfSome result (IsCause stopped limit summary.now) }
-    ensures none { IfNone result (HasNoCause stopped limit summary.now) }
-{
-    if stopped {
-        return Some(Cause::Stopped);
-    }
-    match limit {
-        Some(limit) if summary.tried() >= limit => Some(Cause::Limit),
-        _ => None,
-    }
-}
-
 /// What comes next after a round of a search with this book: another round, the next bound, or the
 /// end. `stopped` says whether the gate stopped a worker. Where all is tried and no next bound
 /// follows, the search isn't cut short, even if a worker was stopped or the limit is reached.
@@ -89,7 +73,7 @@ pub(crate) fn judge(options: Options, book: &Book, stopped: bool) -> Next
     if !is_open && !needs_next_bound(options.search, book.mode(), book.finished()) {
         return Next::End(Ending::Whole);
     }
-    match cause_of(options.limit, book.finished(), stopped) {
+    match options.cause(book.finished(), stopped) {
         Some(cause) => Next::End(Ending::Cut(cause)),
         None if is_open => Next::Again,
         None => Next::Raise,

@@ -5,9 +5,9 @@ ghost use Rattle.std.specs.Arc.{arc_value};
 ghost use Rattle.runner_report.specs.declared.error.ExploreError.TheVariants.{OutOfMemory};
 ghost use Rattle.runner_report.specs.declared.options.Search.TheVariants.{UpTo};
 ghost use Rattle.runner_workers.specs.declared.limits.TheConstants.{WORKERS};
-ghost use Rattle.runner_report.specs.Promises.{IsSearch, IsReport};
+ghost use Rattle.runner_report.specs.Promises.{IsSearch, IsReport, first_mode};
 ghost use Rattle.runner.specs.Levels.{IsModeOf, AreLevels};
-ghost use Rattle.runner.specs.inner.Judging.{IsAt, AreKept, HasEnded, Ends, first_mode};
+ghost use Rattle.runner.specs.inner.Judging.{IsAt, AreKept, HasEnded, Ends};
 
 use crate::alone::search_alone;
 use crate::course::{

@@ -2,6 +2,7 @@
 use Rattle.std.specs.Prelude.{◌≡◌, ◌≤◌, ℕ, Bool, true, Some, None}
 use Rattle.guest_code.specs.Program.{Program}
 use Rattle.walk_items.specs.{Once.{up_to, pruned}, declared.limits.TheConstants.BOUND}
+use Rattle.walk_items.specs.declared.mode.Mode.{Mode}
 use Rattle.walk_summary.specs.Summaries.{SummaryView}
 use Rattle.runner_report.specs.Reports.{IsBad, IsClean, IsCutShort, IsFinished}
 use Rattle.runner_report.specs.{Unbounded.{IsFirstBad, HasNoBad}, declared.options.Options.Options}
@@ -13,6 +14,12 @@ use Rattle.runner_report.specs.declared.report.Verdict.TheVariants.{Clean, Bad, 
 abbrev pub IsSearch : Search → Type 0
 IsSearch (UpTo last) = last ≤ BOUND
 IsSearch Unbounded = Unit {0}
+
+-- the first mode of a search at which something is tried of what is under a prefix with this many
+-- preemptions, with equal threads once or not
+abbrev pub first_mode : Bool → Search → ℕ → Mode
+first_mode once (UpTo last) preemptions = up_to once preemptions
+first_mode once Unbounded preemptions = pruned once
 
 -- what a verdict says where a search up to a bound has come to this bound and summary
 abbrev pub IsBoundedVerdict : Bool → Program → Options → ℕ → ℕ → SummaryView → Verdict → Type 0

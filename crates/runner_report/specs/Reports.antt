@@ -81,6 +81,10 @@ abbrev pub IsCause : Bool → Option ℕ → SummaryView → Cause → Type 0
 IsCause may limit sum Limit = IsReached limit sum
 IsCause may limit sum Stopped = may ≡ true
 
+-- there is no cause to cut a search short
+abbrev pub HasNoCause : Bool → Option ℕ → SummaryView → Type 0
+HasNoCause may limit sum = (cause : Cause) → IsCause may limit sum cause → ⊥
+
 -- the last bound that was finished, without a bad schedule
 abbrev pub IsFinished : Program → ℕ → Option ℕ → Type 0
 IsFinished p bound (Some f) = ((bound ≡ f) ⊎ (bound ≡ f + 1)) × NoBadBelow p (f + 1)

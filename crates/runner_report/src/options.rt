@@ -1,9 +1,13 @@
 //! What a search is asked for.
 
-ghost use Rattle.std.specs.Prelude.{◌≡◌, None, false};
-ghost use Rattle.runner_report.specs.declared.limits.TheConstants.{QUOTA};
+ghost use Rattle.std.specs.Prelude.{◌≡◌, None, false, IfSome, IfNone};
+ghost use Rattle.runner_report.specs.Reports.{IsCause, HasNoCause};
+ghost use Rattle.runner_report.specs.{Promises.first_mode, declared.limits.TheConstants.QUOTA};
 
 use crate::limits::QUOTA;
+use crate::report::Cause;
+use walk_items::mode::Mode;
+use walk_summary::Summary;
 
 /// How far a search goes.
 #[derive(Clone, Copy, PartialEq, Eq)]
@@ -20,6 +24,22 @@ pub enum Search {
     /// The idea of sleep sets is that of Godefroid, "Partial-Order Methods for the Verification of
     /// Concurrent Systems" (1996).
     Unbounded,
+}
+
+impl Search {
+    /// The first mode in which a search tries anything of what is under a prefix with this many
+    /// preemptions: at the bound of these, or, if the search is unbounded, by sleep sets; with equal
+    /// threads `once`, or not.
+    pub fn first_mode(self, once: bool, preemptions: u32) -> Mode
+        ensures { result ≡ first_mode once self preemptions }
+    {
+        match (self, once) {
+            (Search::UpTo(_), false) => Mode::Bounded(preemptions),
+            (Search::UpTo(_), true) => Mode::BoundedOnce(preemptions),
+            (Search::Unbounded, false) => Mode::Reduced,
+            (Search::Unbounded, true) => Mode::ReducedOnce,
+        }
+    }
 }
 
 /// What a search is asked for.
@@ -53,6 +73,21 @@ impl Options {
             quota: QUOTA,
             quick: false,
             symmetry: false,
+        }
+    }
+
+    /// Why a search is cut short after a round that leaves it without an answer: its gate `stopped`
+    /// a worker, or as many schedules as the limit are tried. `None` where it isn't cut short.
+    pub fn cause(self, summary: &Summary, stopped: bool) -> Option<Cause>
+        ensures some { IfSome result (IsCause stopped self.limit summary.now) }
+        ensures none { IfNone result (HasNoCause stopped self.limit summary.now) }
+    {
+        if stopped {
+            return Some(Cause::Stopped);
+        }
+        match self.limit {
+            Some(limit) if summary.tried() >= limit => Some(Cause::Limit),
+            _ => None,
         }
     }
 }

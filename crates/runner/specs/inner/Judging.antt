@@ -3,13 +3,13 @@ use Rattle.std.specs.Prelude.{◌≡◌, ◌<◌, ◌+◌, ◌-◌, ℕ, [], ◌
 use Rattle.std.specs.Prelude.{Option, Some, None}
 use Rattle.std.specs.declared.{alloc.Global.Global, vec.Vec.Vec}
 use Rattle.guest_code.specs.Program.{Program}
-use Rattle.walk_items.specs.{Items.{ItemView, whole}, Once.{up_to, pruned}, Walks.listed_if}
+use Rattle.walk_items.specs.{Items.{ItemView, whole}, Walks.listed_if}
 use Rattle.walk_items.specs.declared.mode.Mode.{Mode, TheVariants.{Bounded, Reduced}}
 use Rattle.walk_items.specs.declared.mode.Mode.TheVariants.{BoundedOnce, ReducedOnce}
 use Rattle.semantics_schedules.specs.Schedules.{preemptions}
 use Rattle.walk_summary.specs.Summaries.{SummaryView, IsBoundedBy, end_kind}
 use Rattle.book.specs.{Books.BookView, Progress.mode_bound}
-use Rattle.runner_report.specs.Reports.{NoBadBelow, SomeExceeds, IsCause, IsFinished}
+use Rattle.runner_report.specs.Reports.{NoBadBelow, SomeExceeds, IsCause, HasNoCause, IsFinished}
 use Rattle.runner_report.specs.declared.{level.Level.Level, options.Options.Options}
 use Rattle.runner_report.specs.declared.options.Search.{Search, TheVariants.{UpTo, Unbounded}}
 use Rattle.runner_report.specs.declared.report.{Cause.Cause, Report.Report, Verdict.Verdict}
@@ -24,12 +24,6 @@ use Rattle.runner_workers.specs.Teams.{IsOf}
 pub record HasPassedBounds (p : Program) (bound : ℕ) : Type 0 where
   pub none : NoBadBelow p bound
   pub past : (b : ℕ) → b < bound → SomeExceeds p b
-
--- the first mode of a search at which something is tried of what is under a prefix with this many
--- preemptions, with equal threads once or not
-abbrev pub first_mode : Bool → Search → ℕ → Mode
-first_mode once (UpTo last) preemptions = up_to once preemptions
-first_mode once Unbounded preemptions = pruned once
 
 -- whether what a mode puts off is listed: it is where the search may go on to another bound
 abbrev pub lists_at : Search → Mode → Bool
@@ -115,10 +109,6 @@ Ends may o b (Cut cause) =
 abbrev pub ending_cause : Ending → Option Cause
 ending_cause Whole = None
 ending_cause (Cut cause) = Some cause
-
--- there is no cause to cut a search short
-abbrev pub HasNoCause : Bool → Option ℕ → SummaryView → Type 0
-HasNoCause may limit sum = (cause : Cause) → IsCause may limit sum cause → ⊥
 
 -- what comes next after a round
 abbrev pub Comes : Bool → Options → BookView → Next → Type 0

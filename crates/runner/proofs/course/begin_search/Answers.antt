@@ -2,7 +2,7 @@ use Rattle.std.proofs.Common.{rules, ◌≡◌, refl}
 use Rattle.std.specs.Arc.{arc_value}
 use Rattle.walk_items.specs.Items.{root_of}
 use Rattle.book.specs.Books.{opening_of}
-use Rattle.runner.specs.inner.Judging.{first_mode}
+use Rattle.runner_report.specs.Promises.{first_mode}
 use Rattle.runner.proofs.AfterRounds.{opened_at, first_of, none_passed}
 use Rattle.runner.proofs.course.begin_search.Goals as goal
 

@@ -1,7 +1,8 @@
 use Rattle.std.proofs.Common.{rules, ◌≡◌, ◌∙◌, ap, sym, subst, refl, false}
 use Rattle.walk_items.specs.declared.mode.Mode.{Mode}
 use Rattle.book.specs.Books.{BookView, opening_of}
-use Rattle.runner.specs.{Levels.{IsModeOf, AreBelow}, inner.Judging.{first_mode, begun}}
+use Rattle.runner_report.specs.Promises.{first_mode}
+use Rattle.runner.specs.{Levels.{IsModeOf, AreBelow}, inner.Judging.{begun}}
 use Rattle.runner.proofs.AfterRounds.{opened_at, first_passed}
 use Rattle.runner.proofs.course.begin_search_under.Goals as goal
 
