@@ -1,3 +1,2 @@
 pub mod Teams
-pub mod Kept
 pub mod Lent

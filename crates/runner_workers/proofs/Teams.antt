@@ -3,7 +3,8 @@ use Rattle.std.proofs.Common.{◌≡◌, ◌<◌, ◌≤◌, subst, Vec, Global,
 use Rattle.std.specs.List.{All}
 use Rattle.guest_code.specs.Program.{Program}
 use Rattle.runner_workers.specs.{Teams.IsTeam, declared.limits.TheConstants.WORKERS}
-use Rattle.runner_workers.specs.declared.{team.Team.Team, worker.Worker.Worker}
+use Rattle.runner_workers.specs.declared.team.Team.{Team}
+use Rattle.runner_rounds.specs.declared.worker.Worker.{Worker}
 
 pub same_workers : (p q : Program) (old new : Team) → old.workers ≡ new.workers → p ≡ q
     → IsTeam p old → IsTeam q new

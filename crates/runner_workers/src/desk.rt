@@ -4,16 +4,14 @@ ghost use Rattle.std.specs.Prelude.{◌≡◌, ◌≤◌, ◌-◌, ◌||◌, ◌
 ghost use Rattle.std.specs.{Arc.arc_value, Option.ForSome};
 ghost use Rattle.walk_items.specs.Items.{AreOf};
 ghost use Rattle.book.specs.Books.{thinned};
-ghost use Rattle.runner_workers.specs.{Teams.IsOf, declared.round.Round.Round};
-ghost use Rattle.runner_workers.specs.inner.Rounds.{IsRoundOf, Follows, GoesOn};
+ghost use Rattle.runner_rounds.specs.{Rounds.{IsOf, IsRoundOf, GoesOn}, declared.round.Round.Round};
+ghost use Rattle.runner_workers.specs.inner.Rounds.{Follows};
 
-use crate::branded::{BrandedBook, SearchBrand};
 use crate::gate::Gate;
-use crate::limits::PADDING_WORDS;
-use crate::round::Round;
 use book::books::Book;
 use book::progress::Progress;
 use runner_report::Options;
+use runner_rounds::{BrandedBook, PADDING_WORDS, Round, SearchBrand};
 use std::alloc::{AllocError, Global};
 use std::mem;
 use std::sync::Arc;

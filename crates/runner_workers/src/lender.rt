@@ -3,17 +3,17 @@
 ghost use Rattle.std.specs.Prelude.{◌≡◌, ◌≤◌, ◌⊎◌, ◌↔◌, ◌<◌, true, false, IfOk, IfNone, IsTrue, length};
 ghost use Rattle.book.specs.{Books.{HaveFound, HaveSettled, places_from}, ItemLists.all_of};
 ghost use Rattle.book.specs.{Lending.{as_book, IsLoanOf}, declared.limits.TheConstants.ROUND};
-ghost use Rattle.runner_workers.specs.{Teams.IsOf, declared.lender.Task.TheVariants.{Walk, Quit}};
+ghost use Rattle.runner_rounds.specs.Rounds.{IsOf};
+ghost use Rattle.runner_workers.specs.declared.lender.Task.TheVariants.{Walk, Quit};
 ghost use Rattle.runner_workers.specs.inner.Loans.{IsLent, MayLend};
 
-use crate::branded::SearchBrand;
 use crate::gate::Gate;
-use crate::limits::{PADDING_WORDS, SHARES};
-use crate::worker::Worker;
+use crate::limits::SHARES;
 use book::books::Book;
 use book::lending::LendingBook;
 use book::limits::ROUND;
 use book::loan::Loan;
+use runner_rounds::{PADDING_WORDS, SearchBrand, Worker};
 use std::alloc::{AllocError, Global};
 use std::marker::PhantomData;
 

@@ -8,7 +8,6 @@
 //! - [`Exit`] is how the workers ended.
 #![tactic(auto)]
 
-mod branded;
 mod desk;
 mod exit;
 mod gate;
@@ -16,11 +15,9 @@ mod lender;
 pub mod limits;
 mod monitor;
 mod own_rounds;
-mod round;
 mod seated_worker;
 mod stretch;
 mod team;
-mod worker;
 
 pub use exit::Exit;
 pub use gate::{Answer, Gate, Open};

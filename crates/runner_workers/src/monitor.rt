@@ -1,6 +1,7 @@
 //! A monitor: a lock, and a count of turns that workers wait for.
 
-use crate::limits::{PADDING_WORDS, SPINS, YIELDS};
+use crate::limits::{SPINS, YIELDS};
+use runner_rounds::PADDING_WORDS;
 use std::sync::atomic::{AtomicU64, Ordering};
 use std::sync::{Mutex, MutexGuard, Wait};
 use std::{hint, thread};

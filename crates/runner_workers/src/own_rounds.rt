@@ -4,19 +4,19 @@ ghost use Rattle.std.specs.Prelude.{◌≡◌, ◌≤◌, false, IfOk, OnOk, len
 ghost use Rattle.std.specs.{Arc.arc_value, List.All};
 ghost use Rattle.walk_items.specs.Items.{AreOf};
 ghost use Rattle.book.specs.{Books.{HaveFound, places_from}, ItemLists.all_of};
-ghost use Rattle.runner_workers.specs.{Teams.{IsOf, IsTeam}, declared.lender.Task.TheVariants.Walk};
+ghost use Rattle.runner_rounds.specs.Rounds.{IsOf};
+ghost use Rattle.runner_workers.specs.{Teams.IsTeam, declared.lender.Task.TheVariants.Walk};
 ghost use Rattle.runner_workers.specs.inner.Loans.{IsLent};
 
-use crate::branded::SearchBrand;
 use crate::gate::{Answer, Gate};
 use crate::lender::{Lender, Task};
 use crate::limits::WORKERS;
 use crate::monitor::Monitor;
 use crate::team::Team;
-use crate::worker::Worker;
 use book::loan::Loan;
 use guest_code::program::Program;
 use runner_report::Options;
+use runner_rounds::{SearchBrand, Worker};
 use std::alloc::{AllocError, Global};
 use std::sync::{Arc, Wait};
 use std::thread;

@@ -2,20 +2,18 @@
 
 ghost use Rattle.std.specs.Prelude.{◌≡◌, ◌<◌, ◌↔◌, ℕ, [], true, false, vec_len, Some, None, OnOk, IfSome, IfNone, IsTrue};
 ghost use Rattle.std.specs.List.{All, Any};
-ghost use Rattle.runner_workers.specs.declared.limits.TheConstants.{KEPT_WALKS};
+ghost use Rattle.runner_rounds.specs.{Rounds.{IsRoundOf, AreKept, rank}, declared.limits.TheConstants.KEPT_WALKS};
 ghost use Rattle.runner_workers.specs.declared.exit.Exit.TheVariants.{Finished, Stopped, OutOfMemory};
 ghost use Rattle.board.specs.Claims.{Draws, IsAnswered, marked, with_told};
-ghost use Rattle.runner_workers.specs.inner.Rounds.{IsRoundOf, IsOn, AreKept, rank};
+ghost use Rattle.runner_workers.specs.inner.Rounds.{IsOn};
 
-use crate::branded::SearchBrand;
 use crate::desk::Desk;
 use crate::exit::Exit;
 use crate::gate::{Answer, Gate};
 use crate::limits::WORKERS;
 use crate::monitor::Monitor;
-use crate::round::Round;
-use crate::worker::Worker;
 use board::{Board, Seat};
+use runner_rounds::{Round, SearchBrand, Worker};
 use std::alloc::{AllocError, Global};
 use std::sync::Wait;
 use std::thread::Threads;

@@ -3,21 +3,21 @@
 ghost use Rattle.std.specs.Prelude.{◌≡◌, ◌≤◌, true, vec_len, IfOk};
 ghost use Rattle.std.specs.List.{All};
 ghost use Rattle.runner_workers.specs.declared.exit.Exit.TheVariants.{Stopped};
-ghost use Rattle.runner_workers.specs.Teams.{IsOf, IsTeam};
+ghost use Rattle.runner_rounds.specs.Rounds.{IsOf};
+ghost use Rattle.runner_workers.specs.Teams.{IsTeam};
 ghost use Rattle.runner_workers.specs.inner.Rounds.{IsOn, IsStretch};
 
-use crate::branded::SearchBrand;
 use crate::desk::Desk;
 use crate::exit::Exit;
 use crate::gate::Gate;
 use crate::monitor::Monitor;
 use crate::seated_worker::{SeatedWorker, Shared, exit_of, run_workers};
 use crate::team::Team;
-use crate::worker::Worker;
 use board::{Board, Seat};
 use book::books::Book;
 use guest_code::program::Program;
 use runner_report::Options;
+use runner_rounds::{SearchBrand, Worker};
 use std::alloc::{AllocError, Global};
 use std::sync::{Arc, Wait};
 use std::thread::Threads;

@@ -4,18 +4,19 @@ ghost use Rattle.std.specs.Prelude.{◌≡◌, ◌<◌, ◌≤◌, true, false, 
 ghost use Rattle.runner_workers.specs.declared.limits.TheConstants.{WORKERS};
 ghost use Rattle.runner_report.specs.declared.error.ExploreError.TheVariants.{OutOfMemory};
 ghost use Rattle.runner_workers.specs.declared.exit.Exit.TheVariants.{Stopped};
-ghost use Rattle.runner_workers.specs.Teams.{IsOf, IsTeam};
+ghost use Rattle.runner_rounds.specs.Rounds.{IsOf};
+ghost use Rattle.runner_workers.specs.Teams.{IsTeam};
 
 use crate::exit::Exit;
 use crate::gate::{Answer, Gate};
 use crate::own_rounds::run_own_rounds;
 use crate::stretch::Stretch;
-use crate::worker::Worker;
 use board::Board;
 use book::books::Book;
 use book::errors::SettleError;
 use book::limits::ROUND;
 use runner_report::{ExploreError, Options};
+use runner_rounds::Worker;
 use std::alloc::{AllocError, Global};
 use std::marker::Brand;
 use std::sync::{Arc, Wait};

@@ -18,7 +18,7 @@ use Rattle.runner.specs.Levels.{IsModeOf, GoesOn, HasPassed, AreBelow}
 use Rattle.runner.specs.declared.course.Course.{Course}
 use Rattle.runner.specs.declared.judge.{Ending.Ending, Ending.TheVariants.{Whole, Cut}, Next.Next}
 use Rattle.runner.specs.declared.judge.Next.TheVariants.{Again, Raise, End}
-use Rattle.runner_workers.specs.Teams.{IsOf}
+use Rattle.runner_rounds.specs.Rounds.{IsOf}
 
 -- the bounds below this one were finished without a bad schedule, and some schedule exceeds each
 pub record HasPassedBounds (p : Program) (bound : ℕ) : Type 0 where

@@ -1,7 +1,8 @@
 use Rattle.std.proofs.Common.{◌≡◌, ap, sym, subst, length, arith, Option, IfSome}
 use Rattle.std.proofs.lemmas.List.Elements.{All-push, All-same, All-rest, All-head, All-pop}
 use Rattle.board.specs.Board.{SeatView}
-use Rattle.runner_workers.specs.{declared.worker.Worker.Worker, inner.Rounds.IsOn}
+use Rattle.runner_rounds.specs.declared.worker.Worker.{Worker}
+use Rattle.runner_workers.specs.inner.Rounds.{IsOn}
 use Rattle.runner_workers.proofs.stretch.assign_seats.Goals as goal
 
 pub loop-seat-preserved : goal.loop-seat-preserved

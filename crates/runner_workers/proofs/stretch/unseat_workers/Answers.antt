@@ -2,7 +2,8 @@ use Rattle.std.proofs.Common.{◌≡◌, ap, sym, length, arith}
 use Rattle.std.proofs.lemmas.List.Elements.{All-push, All-same, All-rest, All-head}
 use Rattle.board.specs.Board.{SeatView}
 use Rattle.runner_workers.specs.declared.seated_worker.SeatedWorker.{SeatedWorker}
-use Rattle.runner_workers.specs.{declared.worker.Worker.Worker, inner.Rounds.IsOn}
+use Rattle.runner_rounds.specs.declared.worker.Worker.{Worker}
+use Rattle.runner_workers.specs.inner.Rounds.{IsOn}
 use Rattle.runner_workers.proofs.stretch.unseat_workers.Goals as goal
 
 pub loop-one-preserved : goal.loop-one-preserved

@@ -1,4 +1,4 @@
-use Rattle.runner_workers.specs.Teams.{IsOf}
+use Rattle.runner_rounds.specs.Rounds.{IsOf}
 use Rattle.runner_workers.proofs.team.walk_and_settle_in_order.Given as goal
 
 abbrev pub invariant-loop-k : goal.invariant-loop-k

@@ -2,7 +2,7 @@ use Rattle.std.proofs.Common.{◌≡◌, ap, length}
 use Rattle.guest_code.specs.Program.{Program}
 use Rattle.walk_items.specs.Items.{ItemView}
 use Rattle.book.specs.{Books.places_from, ItemLists.all_of, Lending.as_book}
-use Rattle.runner_workers.proofs.Kept.{found_in, kept_of}
+use Rattle.runner_rounds.proofs.Kept.{found_in, kept_of}
 use Rattle.runner_workers.proofs.lender.Lender.settle.Goals as goal
 
 pub invariant_of-self : goal.invariant_of-self

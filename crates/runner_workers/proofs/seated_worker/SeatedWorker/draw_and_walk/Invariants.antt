@@ -1,6 +1,6 @@
 use Rattle.std.proofs.Common.{◌<◌, vec_len}
-use Rattle.runner_workers.specs.declared.limits.TheConstants.{KEPT_WALKS}
-use Rattle.runner_workers.specs.inner.Rounds.{IsOn, AreKept}
+use Rattle.runner_rounds.specs.{Rounds.AreKept, declared.limits.TheConstants.KEPT_WALKS}
+use Rattle.runner_workers.specs.inner.Rounds.{IsOn}
 use Rattle.runner_workers.proofs.seated_worker.SeatedWorker.draw_and_walk.Given as goal
 
 abbrev pub invariant-loop : goal.invariant-loop

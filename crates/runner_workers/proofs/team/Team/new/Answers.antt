@@ -1,6 +1,6 @@
 use Rattle.std.proofs.Common.{rules, ◌≡◌, arith}
 use Rattle.std.proofs.lemmas.List.Elements.{All-push, All-same}
-use Rattle.runner_workers.specs.declared.worker.Worker.{Worker}
+use Rattle.runner_rounds.specs.declared.worker.Worker.{Worker}
 use Rattle.runner_workers.proofs.team.Team.new.Goals as goal
 
 pub loop-number-preserved : goal.loop-number-preserved

@@ -2,8 +2,8 @@
 
 ghost use Rattle.std.specs.Prelude.{◌≡◌, ◌<◌, false, [], vec_len, IfOk, OnOk};
 ghost use Rattle.std.specs.Arc.{arc_value};
-ghost use Rattle.runner_workers.specs.declared.{limits.TheConstants.KEPT_WALKS, round.Round.Round};
-ghost use Rattle.runner_workers.specs.inner.Rounds.{IsRoundOf, AreKept};
+ghost use Rattle.runner_rounds.specs.declared.{limits.TheConstants.KEPT_WALKS, round.Round.Round};
+ghost use Rattle.runner_rounds.specs.Rounds.{IsRoundOf, AreKept};
 
 use crate::limits::{KEPT_WALKS, PADDING_WORDS};
 use crate::round::Round;
@@ -16,7 +16,7 @@ use walk::walker::Walker;
 /// A worker: its walker, the indexes in a round of the items that it walked and that aren't settled
 /// yet, and what these walks found. Its number is the one that items are lent to.
 #[derive(Drop)]
-pub(crate) struct Worker {
+pub struct Worker {
     pub walker: Walker,
     pub places: Vec<usize>,
     pub found: Found,

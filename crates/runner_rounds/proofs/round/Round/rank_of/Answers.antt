@@ -2,8 +2,8 @@ use Rattle.std.proofs.Common.{rules, arith, ◌≡◌, ◌∙◌, ◌<◌, ◌+�
 use Rattle.std.proofs.lemmas.List.Sums.{count_by_more_yes, count_by_more_no}
 use Rattle.walk_items.specs.Items.{ItemView}
 use Rattle.semantics_schedules.{specs.Order.precedes, proofs.LeastSchedule.slices_order}
-use Rattle.runner_workers.proofs.round.Round.rank_of.Goals.{then-is_lt, else-is_lt}
-use Rattle.runner_workers.proofs.round.Round.rank_of.Goals as goal
+use Rattle.runner_rounds.proofs.round.Round.rank_of.Goals.{then-is_lt, else-is_lt}
+use Rattle.runner_rounds.proofs.round.Round.rank_of.Goals as goal
 
 pub loop-other-preserved : goal.loop-other-preserved
 loop-other-preserved c =

@@ -1,7 +1,7 @@
 use Rattle.std.proofs.Common.{rules, ◌≡◌, ◌<◌, ◌^◌, ◌∙◌, ap, sym, subst, arith, length, Some, slice_get}
 use Rattle.book.{specs.Books.HaveFound, proofs.Gathered.one_more_found, proofs.PackedItems.got-or}
 use Rattle.book.proofs.Rounds.{added_tried}
-use Rattle.runner_workers.proofs.worker.Worker.walk_item.Goals as goal
+use Rattle.runner_rounds.proofs.worker.Worker.walk_item.Goals as goal
 
 pub returns-clause-kept : goal.returns-clause-kept
 returns-clause-kept c =

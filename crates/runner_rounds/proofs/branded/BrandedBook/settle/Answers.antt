@@ -1,8 +1,8 @@
 use Rattle.std.proofs.Common.{◌≡◌, ◌⊎◌, ◌∙◌, true, false, Ok, inl, inr, ap, sym, subst}
 use Rattle.walk_items.specs.Items.{ItemView, AreOf}
 use Rattle.book.specs.Books.{HaveSettled, AreNotTaken}
-use Rattle.runner_workers.proofs.Kept.{found_in, kept_of}
-use Rattle.runner_workers.proofs.branded.BrandedBook.settle.Goals as goal
+use Rattle.runner_rounds.proofs.Kept.{found_in, kept_of}
+use Rattle.runner_rounds.proofs.branded.BrandedBook.settle.Goals as goal
 
 pub settle_all-settled-requires-clause-program : goal.settle_all-settled-requires-clause-program
 settle_all-settled-requires-clause-program g c =

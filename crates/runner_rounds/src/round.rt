@@ -1,7 +1,7 @@
 //! A round that several workers share.
 
 ghost use Rattle.std.specs.Prelude.{◌≡◌, ◌<◌, ◌≤◌, ◌+◌, ◌⊎◌, ◌↔◌, vec_len, IfSome, IfNone, IsTrue};
-ghost use Rattle.runner_workers.specs.inner.Rounds.{rank};
+ghost use Rattle.runner_rounds.specs.Rounds.{rank};
 
 use board::NONE_TOLD;
 use walk_items::item::Item;
@@ -9,7 +9,7 @@ use walk_items::mode::Mode;
 
 /// The items of a round, and how they are walked. Nobody changes a round while workers have it.
 #[derive(Drop)]
-pub(crate) struct Round {
+pub struct Round {
     pub mode: Mode,
     pub quick: bool,
     /// Whether prefixes that walks of the round defer are listed.

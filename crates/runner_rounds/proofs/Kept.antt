@@ -7,7 +7,7 @@ use Rattle.walk_items.specs.{Items.ItemView, Walks.{WalkView, items_at, listed_i
 use Rattle.walk_items.specs.declared.mode.Mode.{Mode}
 use Rattle.walk.specs.declared.found.Found.{Found}
 use Rattle.book.specs.Books.{BookView, AreWalksAt, HaveFound, HaveSettled}
-use Rattle.runner_workers.specs.Teams.{IsOf}
+use Rattle.runner_rounds.specs.Rounds.{IsOf}
 
 -- a book where walks were settled is of the same search
 pub settled_of : (i : ItemView) (mode : Mode) (quick lists : Bool) (ws : List WalkView)

@@ -2,8 +2,8 @@
 
 ghost use Rattle.std.specs.Prelude.{◌≡◌, ◌⊎◌, ◌↔◌, [], OnOk, OnErr, IsTrue};
 ghost use Rattle.book.specs.Books.{HaveFound, HaveSettled, AreNotTaken, thinned};
-ghost use Rattle.runner_workers.specs.{Teams.IsOf, declared.round.Round.Round};
-ghost use Rattle.runner_workers.specs.inner.Rounds.{IsRoundOf, AreKept, GoesOn};
+ghost use Rattle.runner_rounds.specs.{Rounds.IsOf, declared.round.Round.Round};
+ghost use Rattle.runner_rounds.specs.Rounds.{IsRoundOf, AreKept, GoesOn};
 
 use crate::round::Round;
 use crate::worker::Worker;
@@ -13,7 +13,7 @@ use std::marker::{Brand, Model, PhantomData};
 
 /// The search that a book is of, as a type: item, mode, and whether it is quick and lists deferred
 /// prefixes. For contracts alone. Each stretch of rounds is given its own.
-pub(crate) trait SearchBrand {
+pub trait SearchBrand {
     ghost use Rattle.std.specs.Prelude.{Bool};
     ghost use Rattle.walk_items.specs.declared.mode.Mode.{Mode};
     ghost use Rattle.walk_items.specs.Items.{ItemView};
@@ -51,14 +51,14 @@ impl SearchBrand for Brand {
 /// A book that is known, by its type, to be of the search `N`: a worker that gets it from a lock
 /// compares nothing. Contracts see the book.
 #[derive(Drop)]
-pub(crate) struct BrandedBook<N: SearchBrand> {
+pub struct BrandedBook<N: SearchBrand> {
     book: Book,
     of: PhantomData<N>,
 }
 
 impl<N: SearchBrand> Model for BrandedBook<N> {
     ghost use Rattle.book.specs.Books.{BookView};
-    ghost use Rattle.runner_workers.specs.Teams.{IsOf};
+    ghost use Rattle.runner_rounds.specs.Rounds.{IsOf};
 
     ghost Value = { BookView };
 

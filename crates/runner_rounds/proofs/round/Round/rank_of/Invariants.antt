@@ -1,6 +1,6 @@
 use Rattle.std.proofs.Common.{◌≡◌, ◌≤◌, take}
-use Rattle.runner_workers.specs.inner.Rounds.{rank}
-use Rattle.runner_workers.proofs.round.Round.rank_of.Given as goal
+use Rattle.runner_rounds.specs.Rounds.{rank}
+use Rattle.runner_rounds.proofs.round.Round.rank_of.Given as goal
 
 abbrev pub invariant-loop-other : goal.invariant-loop-other
 invariant-loop-other l = record {

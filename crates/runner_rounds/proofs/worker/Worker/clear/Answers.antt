@@ -1,6 +1,6 @@
 use Rattle.std.proofs.Common.{◌≡◌, ap, sym, subst, arith}
 use Rattle.book.{specs.Books.HaveFound, proofs.Gathered.none_found}
-use Rattle.runner_workers.proofs.worker.Worker.clear.Goals as goal
+use Rattle.runner_rounds.proofs.worker.Worker.clear.Goals as goal
 
 pub returns-clause-kept : goal.returns-clause-kept
 returns-clause-kept c = λ r.
