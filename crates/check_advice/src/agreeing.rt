@@ -40,14 +40,15 @@ fn leading_way(
     holds: bool,
     is_set: bool,
 ) -> Option<usize> {
-    let first = place
-        .saturating_mul(WAYS)
-        .saturating_add(if owns { 2 } else { 0 });
-    let leads = |holds: bool| {
-        let way = first.saturating_add(usize::from(holds));
-        after.get(way)?.map(|_| way)
-    };
-    leads(holds).or(leads(!holds).filter(|_| is_set))
+    let side = if owns { 2 } else { 0 };
+    let first = place.saturating_mul(WAYS).saturating_add(side);
+    let way = first.saturating_add(usize::from(holds));
+    let other = first.saturating_add(usize::from(!holds));
+    match (after.get(way), after.get(other)) {
+        (Some(Some(_)), _) => Some(way),
+        (_, Some(Some(_))) if is_set => Some(other),
+        _ => None,
+    }
 }
 
 impl Fault<'_> {
@@ -112,7 +113,7 @@ impl Fault<'_> {
     // that jump, so only the others are asked.
     fn is_ruled_out(mut self, alloc: Global) -> Result<bool, AllocError> {
         let ways = self.ways(alloc)?;
-        let (mut way, mut is_possible) = (0, ways.first().is_some_and(Option::is_some));
+        let (mut way, mut is_possible) = (0, matches!(ways.first(), Some(Some(_))));
         for (place, instruction) in self.code.iter().enumerate() {
             if is_possible
                 && way / WAYS == place
@@ -122,7 +123,7 @@ impl Fault<'_> {
                 self.test = tested(instruction).filter(|_| way / WAYS == place.saturating_add(1));
                 if self.test.is_some() {
                     let agreeing = self.ways(alloc)?;
-                    is_possible = agreeing.iter().take(2).any(|way| way.is_some());
+                    is_possible = matches!(agreeing.as_slice(), [Some(_), ..] | [_, Some(_), ..]);
                 }
             }
         }

@@ -75,10 +75,13 @@ impl<'a> Compiled<'a> {
         message: Message,
     ) -> Result<(), AllocError> {
         let headline = format!(in message.allocator(); "{severity} {name} at {at}")?;
-        if !all.iter().any(|diagnostic| diagnostic.headline == headline) {
-            let span = span_at(self.pieces, at);
-            all.push(message.into_diagnostic(severity, headline, Some(span)))?;
+        for diagnostic in all.as_slice() {
+            if diagnostic.headline == headline {
+                return Ok(());
+            }
         }
+        let span = span_at(self.pieces, at);
+        all.push(message.into_diagnostic(severity, headline, Some(span)))?;
         Ok(())
     }
 }

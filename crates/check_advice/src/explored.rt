@@ -86,8 +86,7 @@ impl Compiled<'_> {
         let alloc = *all.allocator();
         let spins = self.spins(alloc)?;
         let explored = explore(alloc, self.program, &spins, limit)?;
-        let found = self.shown(alloc, &explored, &spins)?;
-        for shown in &found {
+        for shown in &self.shown(alloc, &explored, &spins)? {
             let mut told = Message::new(alloc);
             shown.tell(&mut told)?;
             self.add_diagnostic(all, (Severity::Warning, shown.row.0), shown.at, told)?;

@@ -39,44 +39,43 @@ fn block_of_leave(pieces: &[Piece<'_>], at: Pos) -> Option<Block> {
     if !matches!(pieces.get(number)?.text, b"leave") {
         return None;
     }
-    (0..number)
-        .rev()
-        .find_map(|keyword| block_around(pieces, keyword, number))
+    for keyword in (0..number).rev() {
+        if let Some(block) = block_around(pieces, keyword, number) {
+            return Some(block);
+        }
+    }
+    None
 }
 
 impl Compiled<'_> {
     // For each instruction of a thread, whether it is in `block`, that of a `repeat`. A `leave` of
     // it counts as outside: a loop that ends by one hasn't run out of turns (`Spin::runs_out`).
     fn in_block(&self, alloc: Global, thread: u8, block: Block) -> Result<Vec<bool>, AllocError> {
-        let is_inside = |at: usize| {
+        let mut inside = Vec::new(alloc);
+        for at in 0..self.code(thread).len() {
             let place = self.place(thread, at);
             let left = block_of_leave(self.pieces, place);
-            is_before(block.open, place)
-                && is_before(place, block.close)
-                && left.is_none_or(|left| left.keyword != block.keyword)
-        };
-        (0..self.code(thread).len()).map(is_inside).collect(alloc)
+            let is_left = matches!(left, Some(left) if left.keyword == block.keyword);
+            inside.push(!is_left && is_before(block.open, place) && is_before(place, block.close))?;
+        }
+        Ok(inside)
     }
 
     // Adds to `spins` the loops of a thread that a `leave` may end: once each copy in its flat code
     // of a `repeat` that has a `leave`. One inside another `repeat` has several copies.
-    fn add_spins(
-        &self,
-        alloc: Global,
-        thread: u8,
-        spins: &mut Vec<Spin>,
-    ) -> Result<(), AllocError> {
+    fn add_spins(&self, thread: u8, spins: &mut Vec<Spin>) -> Result<(), AllocError> {
         for (i, instruction) in self.code(thread).iter().enumerate() {
             if let Instruction::Skip(over) = instruction
                 && let Some(block) = block_of_leave(self.pieces, self.place(thread, i))
             {
                 let at = block.keyword;
                 let exit = i.saturating_add(1).saturating_add(*over);
-                let is_such = |spin: &Spin| spin.thread == thread
-                    && spin.exit == exit
-                    && spin.at == at;
-                if !spins.iter().any(is_such) {
-                    let inside = self.in_block(alloc, thread, block)?;
+                let mut is_known = false;
+                for spin in spins.as_slice() {
+                    is_known |= spin.thread == thread && spin.exit == exit && spin.at == at;
+                }
+                if !is_known {
+                    let inside = self.in_block(*spins.allocator(), thread, block)?;
                     spins.push(Spin {
                         thread,
                         at,
@@ -90,12 +89,11 @@ impl Compiled<'_> {
     }
 
     /// The loops of the program that a `leave` may end: each copy in the flat code of a `repeat`
-    /// that has a `leave`. One inside another `repeat` has several copies. Fails where memory runs
-    /// out.
+    /// that has a `leave`. One inside another has several copies. Fails where memory runs out.
     pub fn spins(&self, alloc: Global) -> Result<Vec<Spin>, AllocError> {
         let mut spins = Vec::new(alloc);
         for thread in 0..self.program.threads() {
-            self.add_spins(alloc, thread, &mut spins)?;
+            self.add_spins(thread, &mut spins)?;
         }
         Ok(spins)
     }

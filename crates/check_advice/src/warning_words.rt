@@ -51,13 +51,11 @@ impl<'a> Compiled<'a> {
         if matches!(local, "true" | "false") {
             return told.note("write 1 or 0: there are no words for them");
         }
-        match self.nearest_local(told.allocator(), thread, local)? {
-            Some(near) => {
-                let near = self.local_name(thread, near);
-                told.note(format_args!("did you mean `{near}`?"))
-            }
-            None => Ok(()),
+        if let Some(near) = self.nearest_local(told.allocator(), thread, local)? {
+            let near = self.local_name(thread, near);
+            told.note(format_args!("did you mean `{near}`?"))?;
         }
+        Ok(())
     }
 
     // The number of the local whose name is nearest to this one, among those of the thread that get

@@ -3,9 +3,7 @@
 use crate::places::{StatementEnds, statement_ends};
 use explain_run::{Object, Step};
 use explain_told::Told;
-use guest_code::limits::THREADS;
 use replay::{Act, schedule_text};
-use semantics::mask::Mask;
 use serde_json::Value;
 use std::alloc::AllocError;
 
@@ -39,47 +37,11 @@ impl<'a> Facts<'a> {
 
     /// The names of the threads of these numbers, in the same order.
     pub fn thread_names(&self, threads: &[u8]) -> Result<Vec<&str>, AllocError> {
-        let names = threads.iter().map(|thread| self.told.thread_name(*thread));
-        names.collect(self.told.alloc)
-    }
-
-    /// The names of the threads in a set, by rising number.
-    pub fn thread_names_in(&self, threads: Mask) -> Result<Vec<&str>, AllocError> {
-        let members = (0..THREADS as u8).filter(|thread| threads.has(*thread));
-        let names = members.map(|thread| self.told.thread_name(thread));
-        names.collect(self.told.alloc)
-    }
-
-    /// The names of the threads in each circle, a list for each. A circle is a set of threads each
-    /// of which waits, through others if need be, for each of them.
-    pub fn circle_thread_names(&self) -> Result<Vec<Vec<&str>>, AllocError> {
-        let circles = self.told.waits.circles().iter();
-        circles
-            .map(|set| self.thread_names_in(*set))
-            .try_collect(self.told.alloc)
-    }
-
-    /// The names of the mutexes, in the order of declaration.
-    pub fn mutex_names(&self) -> Result<Vec<&str>, AllocError> {
-        self.object_names(self.told.source.program.mutexes(), Object::Mutex)
-    }
-
-    /// The names of the conditions, in the order of declaration.
-    pub fn condition_names(&self) -> Result<Vec<&str>, AllocError> {
-        self.object_names(self.told.source.program.conditions(), Object::Condition)
-    }
-
-    /// The names of the objects of a kind with the numbers below `count`, in their order. `kind`
-    /// makes an object of a number, as `Object::Mutex` does.
-    pub fn object_names<F: Fn(usize) -> Object>(
-        &self,
-        count: u8,
-        kind: F,
-    ) -> Result<Vec<&str>, AllocError>
-        requires { F.IsAlwaysCallable kind }
-    {
-        let names = (0..count as usize).map(|number| self.told.object_name(kind(number)));
-        names.collect(self.told.alloc)
+        let mut names = Vec::new(self.told.alloc);
+        for thread in threads {
+            names.push(self.told.thread_name(*thread))?;
+        }
+        Ok(names)
     }
 
     /// The name of the mutex that a step unlocks by a `wait`; `None` where the step is no `wait`.

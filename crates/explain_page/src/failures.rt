@@ -30,21 +30,23 @@ impl<S: Serializer> Writer<'_, S> {
     fn put_failure(&mut self, at: usize, event: &Event, stop: Stop) {
         let told = self.facts.told;
         let statement = told.statement(event.thread, event.instruction);
-        let mutex = match event.statement {
-            Instruction::Unlock(mutex) | Instruction::Wait { mutex, .. } => Some(mutex),
-            _ => None,
-        };
-        let holder = mutex.and_then(|m| told.holder_before(at, m));
-        let since = mutex.and_then(|m| told.causes.last_owner_change(at, m));
-        let since = since.and_then(|place| told.event(place)?.step);
+        let (mut mutex, mut owner, mut since) = (None, None, None);
+        if let Instruction::Unlock(m) | Instruction::Wait { mutex: m, .. } = event.statement {
+            mutex = Some(told.object_name(Object::Mutex(m)));
+            if let Some(holder) = told.holder_before(at, m) {
+                owner = Some(told.thread_name(holder.thread));
+            }
+            if let Some(place) = told.causes.last_owner_change(at, m)
+                && let Some(change) = told.event(place)
+            {
+                since = change.step;
+            }
+        }
         self.token(Token::Object);
         self.put_place(statement);
-        self.put("mutex", mutex.map(|m| told.object_name(Object::Mutex(m))));
+        self.put("mutex", mutex);
         self.put("name", told.thread_name(event.thread));
-        self.put(
-            "owner",
-            holder.map(|holder| told.thread_name(holder.thread)),
-        );
+        self.put("owner", owner);
         self.put("preemptions", told.preemptions_up_to(event));
         self.put_repeats(at);
         self.put("since", since);
@@ -62,8 +64,11 @@ impl<S: Serializer> Writer<'_, S> {
     fn put_repeats(&mut self, at: usize) {
         let told = self.facts.told;
         let repeats = told.causes.repeats_run_out(told.alloc, told.source, at);
+        let Some(repeats) = self.allocated(repeats) else {
+            return;
+        };
         self.begin_list("ran_out");
-        for repeat in self.allocated(repeats).iter().flatten() {
+        for repeat in &repeats {
             self.token(Token::Object);
             self.put_extent_from(Some(repeat.at));
             self.put("line", repeat.at.line);
@@ -74,30 +79,25 @@ impl<S: Serializer> Writer<'_, S> {
     }
 
     // Writes the list `values`: the locals of an assertion, the event at place `at` of the run,
-    // each once. The list is empty where the event is no assertion.
+    // each once, with its value and where that came from. The thread stopped there, so the value is
+    // that from the end of what ran. The list is empty where the event is no assertion.
     fn put_assertion_values(&mut self, at: usize, event: &Event) {
+        let (told, thread) = (self.facts.told, event.thread);
         self.begin_list("values");
-        if let Instruction::Assert(test) = event.statement {
+        if let Instruction::Assert(test) = event.statement
+            && let Some(state) = told.explanation.thread_state(thread)
+        {
             for local in &locals_of(test) {
                 if let Some(local) = *local {
-                    self.put_assertion_value(at, event.thread, local);
+                    self.token(Token::Object);
+                    self.put("local", told.local_name(thread, local));
+                    self.put_origins(at, thread, local);
+                    self.put("value", state.locals.get(local).copied().unwrap_or(0));
+                    self.token(Token::ObjectEnd);
                 }
             }
         }
         self.token(Token::ListEnd);
-    }
-
-    // Writes a local of an assertion with its value and where that came from. The thread stopped
-    // there, so the value is that from the end of what ran.
-    fn put_assertion_value(&mut self, at: usize, thread: u8, local: usize) {
-        let told = self.facts.told;
-        let state = told.explanation.thread_state(thread);
-        let value = state.and_then(|state| state.locals.get(local));
-        self.token(Token::Object);
-        self.put("local", told.local_name(thread, local));
-        self.put_origins(at, thread, local);
-        self.put("value", value.copied().unwrap_or(0));
-        self.token(Token::ObjectEnd);
     }
 
     /// Writes the list `tests`: an object for each test in the cause, in the order in which they were
@@ -122,34 +122,28 @@ impl<S: Serializer> Writer<'_, S> {
     }
 
     // Writes the list `origins`: the statements from which a thread's local has its value before
-    // the event at place `at` of the run, in the order in which they were carried out.
+    // the event at place `at` of the run, in the order in which they were carried out; of one on a
+    // variable, also since which step that was as it found it, and which step changed it next.
     fn put_origins(&mut self, at: usize, thread: u8, local: usize) {
         let told = self.facts.told;
-        let origins = self.allocated(told.origins(at, thread, local));
+        let Some(origins) = self.allocated(told.origins(at, thread, local)) else {
+            return;
+        };
         self.begin_list("origins");
-        if let Some(origins) = origins {
-            for place in &origins {
-                if let Some(event) = told.event(*place) {
-                    self.put_origin(&event);
-                }
+        for place in &origins {
+            if let Some(event) = told.event(*place) {
+                let statement = told.statement(event.thread, event.instruction);
+                self.token(Token::Object);
+                self.put("changed", told.next_change(&event));
+                self.put_place(statement);
+                self.put("name", told.thread_name(event.thread));
+                self.put("since", told.unchanged_since(&event));
+                self.put("step", event.step);
+                self.put_text("text", statement);
+                self.put_turns(statement);
+                self.token(Token::ObjectEnd);
             }
         }
         self.token(Token::ListEnd);
-    }
-
-    // Writes an event from which a local has its value; of one that uses a variable, also since
-    // which step that was as it found it, and which step changed it next.
-    fn put_origin(&mut self, event: &Event) {
-        let told = self.facts.told;
-        let statement = told.statement(event.thread, event.instruction);
-        self.token(Token::Object);
-        self.put("changed", told.next_change(event));
-        self.put_place(statement);
-        self.put("name", told.thread_name(event.thread));
-        self.put("since", told.unchanged_since(event));
-        self.put("step", event.step);
-        self.put_text("text", statement);
-        self.put_turns(statement);
-        self.token(Token::ObjectEnd);
     }
 }

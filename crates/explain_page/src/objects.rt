@@ -62,11 +62,10 @@ impl<'a> ObjectStates<'a> {
         match step.new {
             ObjectState::Value(value) => drop(self.variables.insert(name, value)?),
             ObjectState::Count(count) => drop(self.semaphores.insert(name, count)?),
-            ObjectState::Owner(owner) => {
-                let owner = owner.map(|thread| MutexOwner {
-                    holder: facts.told.thread_name(thread),
-                    since: at,
-                });
+            ObjectState::Owner(None) => drop(self.mutexes.insert(name, None)?),
+            ObjectState::Owner(Some(owner)) => {
+                let (holder, since) = (facts.told.thread_name(owner), at);
+                let owner = Some(MutexOwner { holder, since });
                 drop(self.mutexes.insert(name, owner)?);
             }
             ObjectState::Waiting(_) => self.apply_queue_step(facts, step)?,
@@ -95,7 +94,8 @@ impl<'a> ObjectStates<'a> {
 // By the name of each condition, who waits for it before the first step: nobody.
 fn empty_queues<'a>(facts: &'a Facts<'_>) -> Result<ByName<'a, Vec<&'a str>>, AllocError> {
     let mut queues = ByName::new(facts.told.alloc);
-    for name in facts.condition_names()? {
+    for c in 0..facts.told.source.program.conditions() as usize {
+        let name = facts.told.object_name(Object::Condition(c));
         queues.insert(name, Vec::new(facts.told.alloc))?;
     }
     Ok(queues)
@@ -106,8 +106,8 @@ fn initial_owners<'a>(
     facts: &'a Facts<'_>,
 ) -> Result<ByName<'a, Option<MutexOwner<'a>>>, AllocError> {
     let mut owners = ByName::new(facts.told.alloc);
-    for name in facts.mutex_names()? {
-        owners.insert(name, None)?;
+    for m in 0..facts.told.source.program.mutexes() as usize {
+        owners.insert(facts.told.object_name(Object::Mutex(m)), None)?;
     }
     Ok(owners)
 }
@@ -117,10 +117,8 @@ fn initial_counts<'a>(facts: &'a Facts<'_>) -> Result<ByName<'a, u16>, AllocErro
     let program = facts.told.source.program;
     let mut counts = ByName::new(facts.told.alloc);
     for k in 0..program.semaphores() as usize {
-        counts.insert(
-            facts.told.object_name(Object::Semaphore(k)),
-            program.initial_count(k),
-        )?;
+        let name = facts.told.object_name(Object::Semaphore(k));
+        counts.insert(name, program.initial_count(k))?;
     }
     Ok(counts)
 }
@@ -130,10 +128,8 @@ fn initial_values<'a>(facts: &'a Facts<'_>) -> Result<ByName<'a, i64>, AllocErro
     let program = facts.told.source.program;
     let mut values = ByName::new(facts.told.alloc);
     for x in 0..program.variables() as usize {
-        values.insert(
-            facts.told.object_name(Object::Variable(x)),
-            program.initial_value(x),
-        )?;
+        let name = facts.told.object_name(Object::Variable(x));
+        values.insert(name, program.initial_value(x))?;
     }
     Ok(values)
 }

@@ -43,7 +43,7 @@ pub fn statement_ends(alloc: Global, text: &[u8]) -> Result<StatementEnds, Alloc
 }
 
 /// A line of a file, from which a line of the text comes by a preprocessor's mark.
-#[derive(Clone, Copy, Drop, PartialEq, Serialize)]
+#[derive(Clone, Copy, Drop, Serialize)]
 pub struct FilePlace<'a> {
     file: &'a str,
     line: u32,
@@ -61,9 +61,8 @@ pub struct FileRun<'a> {
 impl Facts<'_> {
     // Where a statement begins in the text; `None` for the end of a thread's code.
     fn statement_start(&self, statement: Statement<'_>) -> Option<Pos> {
-        self.told
-            .source
-            .place(statement.thread, statement.instruction)
+        let (thread, instruction) = (statement.thread, statement.instruction);
+        self.told.source.place(thread, instruction)
     }
 
     // Which line of a file a line of the text comes from, by a preprocessor's marks; `None` where
@@ -81,27 +80,27 @@ impl Facts<'_> {
     /// where the marks tell it of no line.
     pub fn file_runs(&self) -> Result<Option<Vec<FileRun<'_>>>, AllocError> {
         let mut runs = Vec::new(self.told.alloc);
-        let mut due = None;
-        for (_, at) in self
-            .told
-            .source
-            .text
-            .split(|byte| *byte == b'\n')
-            .zip(1u32..)
-        {
-            let origin = self.line_origin(at);
-            if let Some(first) = origin
-                && origin != due
-            {
-                runs.push(FileRun { at, first })?;
+        let (mut at, mut last) = (0_u32, None);
+        // a line begins after each line feed; the first one as if one came before it
+        for byte in b"\n".iter().chain(self.told.source.text) {
+            if *byte == b'\n' {
+                at = at.saturating_add(1);
+                let origin = self.line_origin(at);
+                if let Some(first) = origin
+                    && !is_next(last, first)
+                {
+                    runs.push(FileRun { at, first })?;
+                }
+                last = origin;
             }
-            due = origin.and_then(|origin| {
-                let line = origin.line.checked_add(1)?;
-                Some(FilePlace { line, ..origin })
-            });
         }
         Ok(if runs.is_empty() { None } else { Some(runs) })
     }
+}
+
+// Whether a line of a file comes right after the line `last`, if that is a line of a file.
+fn is_next(last: Option<FilePlace<'_>>, next: FilePlace<'_>) -> bool {
+    matches!(last, Some(it) if it.file == next.file && it.line.checked_add(1) == Some(next.line))
 }
 
 impl<S: Serializer> Writer<'_, S> {
@@ -114,8 +113,10 @@ impl<S: Serializer> Writer<'_, S> {
     /// Writes the `line` in which a statement begins, null at the end of a thread's code. The other
     /// keys of its place are [`Writer::put_extent`]'s: in a step, `held` is between these and it.
     pub fn put_line_number(&mut self, statement: Statement<'_>) {
-        let begin = self.facts.statement_start(statement);
-        self.put("line", begin.map(|begin| begin.line))
+        match self.facts.statement_start(statement) {
+            Some(begin) => self.put("line", begin.line),
+            None => self.put("line", ()),
+        }
     }
 
     /// Writes the `column` at which a statement begins and its `end`, null at the end of a thread's
@@ -128,21 +129,20 @@ impl<S: Serializer> Writer<'_, S> {
     /// [`Writer::put_extent`] does of a statement.
     pub fn put_extent_from(&mut self, begin: Option<Pos>) {
         let facts = self.facts;
-        self.put("column", begin.map(|begin| begin.col));
-        let end = begin.and_then(|begin| facts.ends.get(&(begin.line, begin.col)));
-        self.put("end", end);
-        let from = begin.and_then(|begin| facts.line_origin(begin.line));
-        self.put_some("from", from)
+        let Some(Pos { line, col }) = begin else {
+            self.put("column", ());
+            return self.put("end", ());
+        };
+        self.put("column", col);
+        self.put("end", facts.ends.get(&(line, col)));
+        self.put_some("from", facts.line_origin(line))
     }
 
     /// Writes the list `turns`, of each loop round a statement which turn it is in and `of` how many,
     /// the outer loop first; nothing where its thread didn't carry it out in a turn after the first.
     pub fn put_turns(&mut self, statement: Statement<'_>) {
-        let turns = self
-            .facts
-            .told
-            .turns
-            .of(statement.thread, statement.instruction);
+        let (thread, instruction) = (statement.thread, statement.instruction);
+        let turns = self.facts.told.turns.of(thread, instruction);
         if turns.len() == 0 {
             return;
         }

@@ -27,14 +27,16 @@ impl<S: Serializer> Writer<'_, S> {
         let facts = self.facts;
         let thread = step.line.thread;
         let statement = facts.told.statement(thread, step.instruction);
-        let held = step.held.iter().map(|m| Object::Mutex(*m));
-        let held = held.map(|mutex| facts.told.object_name(mutex));
         self.token(Token::Object);
         self.put("act", act_word(step.line.act));
         self.put_states_after(step, objects);
         self.put("cause", facts.told.is_step_in_cause(at));
         self.put_extent(statement);
-        self.put_allocated("held", held.collect::<Vec<&str>>(facts.told.alloc));
+        self.begin_list("held");
+        for mutex in &step.held {
+            self.value(facts.told.object_name(Object::Mutex(*mutex)));
+        }
+        self.token(Token::ListEnd);
         self.put_line_number(statement);
         self.put_some("mutex", facts.wait_mutex_name(step));
         self.put("name", facts.told.thread_name(thread));
@@ -59,12 +61,17 @@ impl<S: Serializer> Writer<'_, S> {
         let beside = self.facts.wait_mutex_name(step);
         let names = [touched.min(beside), touched.max(beside)];
         self.begin_object("after");
-        for name in names.into_iter().flatten() {
-            let owner = objects.mutexes.get(name).copied();
-            self.put_some(name, objects.conditions.get(name));
-            self.put_some(name, owner.map(|owner| owner.map(|owner| owner.holder)));
-            self.put_some(name, objects.semaphores.get(name));
-            self.put_some(name, objects.variables.get(name));
+        for name in &names {
+            if let Some(name) = *name {
+                self.put_some(name, objects.conditions.get(name));
+                match objects.mutexes.get(name) {
+                    Some(Some(owner)) => self.put(name, owner.holder),
+                    Some(None) => self.put(name, ()),
+                    None => {}
+                }
+                self.put_some(name, objects.semaphores.get(name));
+                self.put_some(name, objects.variables.get(name));
+            }
         }
         self.token(Token::ObjectEnd);
     }
@@ -75,10 +82,8 @@ impl<S: Serializer> Writer<'_, S> {
         let told = self.facts.told;
         match state {
             ObjectState::Value(value) => self.put(key, value),
-            ObjectState::Owner(owner) => self.put(
-                key,
-                owner.map(|thread| told.thread_name(thread)),
-            ),
+            ObjectState::Owner(Some(owner)) => self.put(key, told.thread_name(owner)),
+            ObjectState::Owner(None) => self.put(key, ()),
             ObjectState::Waiting(count) => self.put(key, count),
             ObjectState::Count(count) => self.put(key, count),
         }
@@ -88,18 +93,17 @@ impl<S: Serializer> Writer<'_, S> {
     /// a `lock` or an `acquire` there `wants`, or null at the end of the thread's code.
     pub fn put_next_statement(&mut self, thread: u8, instruction: usize) {
         let told = self.facts.told;
-        self.key("next");
         let wanted = match told.source.instruction(thread, instruction) {
-            Some(Instruction::Lock(m)) => Some(Object::Mutex(m)),
-            Some(Instruction::Acquire(k)) => Some(Object::Semaphore(k)),
+            Some(Instruction::Lock(m)) => Some(told.object_name(Object::Mutex(m))),
+            Some(Instruction::Acquire(k)) => Some(told.object_name(Object::Semaphore(k))),
             Some(_) => None,
-            None => return self.token(Token::Null),
+            None => return self.put("next", ()),
         };
         let statement = told.statement(thread, instruction);
-        self.token(Token::Object);
+        self.begin_object("next");
         self.put_place(statement);
         self.put_text("text", statement);
-        self.put_some("wants", wanted.map(|object| told.object_name(object)));
+        self.put_some("wants", wanted);
         self.token(Token::ObjectEnd);
     }
 

@@ -26,22 +26,14 @@ impl Facts<'_> {
     // The values of a thread's locals in a state of the thread, by name: of as many locals as the
     // program has for the thread, so none where it has no such thread.
     fn local_values(&self, thread: u8, state: &ThreadState) -> Result<ByName<'_, i64>, AllocError> {
-        let count = if thread < self.told.source.program.threads() {
-            self.told.source.program.locals(thread)
-        } else {
-            0
-        };
-        let values = state.locals.iter().take(count).enumerate();
-        let locals = values.map(|(local, value)| (self.told.local_name(thread, local), *value));
-        locals.collect(self.told.alloc)
-    }
-
-    // The names of the variables of these numbers, in the same order.
-    fn variable_names(&self, variables: &[usize]) -> Result<Vec<&str>, AllocError> {
-        let names = variables
-            .iter()
-            .map(|x| self.told.object_name(Object::Variable(*x)));
-        names.collect(self.told.alloc)
+        let program = self.told.source.program;
+        let mut values = ByName::new(self.told.alloc);
+        if thread < program.threads() {
+            for (local, value) in state.locals.iter().take(program.locals(thread)).enumerate() {
+                values.insert(self.told.local_name(thread, local), *value)?;
+            }
+        }
+        Ok(values)
     }
 
     // The statements that could end a wait, by thread, line and column. A statement in a `repeat`
@@ -53,14 +45,11 @@ impl Facts<'_> {
     ) -> Result<BTreeMap<(u8, u32, u32), UnblockingStatement<'_>>, AllocError> {
         let mut found = BTreeMap::new(self.told.alloc);
         for statement in &wait.statements {
-            if let Some(place) = self
-                .told
-                .source
-                .place(statement.thread, statement.instruction)
-            {
-                let known = found.entry((statement.thread, place.line, place.col))?;
+            let (thread, at) = (statement.thread, statement.instruction);
+            if let Some(place) = self.told.source.place(thread, at) {
+                let known = found.entry((thread, place.line, place.col))?;
                 let entry = known.or_insert(UnblockingStatement {
-                    statement: self.told.statement(statement.thread, statement.instruction),
+                    statement: self.told.statement(thread, at),
                     ahead: false,
                     perhaps: false,
                     passed: BTreeSet::new(self.told.alloc),
@@ -71,7 +60,6 @@ impl Facts<'_> {
                     Fate::Ahead => entry.ahead = true,
                     Fate::Perhaps => entry.perhaps = true,
                     Fate::OutOfReach => {
-                        let (thread, at) = (statement.thread, statement.instruction);
                         entry.passed.extend(self.told.causes.jump_over(thread, at))?;
                     }
                 }
@@ -102,27 +90,31 @@ impl<S: Serializer> Writer<'_, S> {
     // condition what the thread would look at if it were woken, the threads that it waits for, and
     // the statements that could end the wait. Null where `wait` is `None`.
     fn put_wait(&mut self, wait: Option<&Wait>) {
-        let facts = self.facts;
-        self.key("waits");
+        let told = self.facts.told;
         let Some(wait) = wait else {
-            return self.token(Token::Null);
+            return self.put("waits", ());
         };
-        let mutex = wait.reason.mutex();
-        let holder = mutex.and_then(|m| facts.told.explanation.holder(m));
-        self.token(Token::Object);
-        self.put("act", wait_reason_word(wait.reason));
-        let look = match wait.reason {
-            Reason::Signal(_) => Some(&wait.look),
-            _ => None,
-        };
-        self.put_some("again", look.map(|look| look.sleeps));
-        self.put_some("holder", holder.map(|h| facts.told.thread_name(h.thread)));
-        if let Some(look) = look {
-            self.put_allocated("loads", facts.variable_names(look.variables.as_slice()));
+        let (mut holder, mut since) = (None, None);
+        if let Some(mutex) = wait.reason.mutex()
+            && let Some(owner) = told.explanation.holder(mutex)
+        {
+            (holder, since) = (Some(told.thread_name(owner.thread)), Some(owner.since));
         }
-        self.put("object", facts.told.object_name(wait.reason.object()));
-        self.put_allocated("on", facts.thread_names_in(wait.on));
-        self.put_some("since", holder.map(|holder| holder.since));
+        self.begin_object("waits");
+        self.put("act", wait_reason_word(wait.reason));
+        if let Reason::Signal(_) = wait.reason {
+            self.put("again", wait.look.sleeps);
+            self.begin_list("loads");
+            for variable in &wait.look.variables {
+                self.value(told.object_name(Object::Variable(*variable)));
+            }
+            self.token(Token::ListEnd);
+        }
+        self.put_some("holder", holder);
+        self.put("object", told.object_name(wait.reason.object()));
+        self.key("on");
+        self.thread_names_in(wait.on);
+        self.put_some("since", since);
         self.put_unblocking_statements(wait);
         self.token(Token::ObjectEnd);
     }
@@ -132,9 +124,11 @@ impl<S: Serializer> Writer<'_, S> {
     // one before the first step, and that carried it out.
     fn put_unblocking_statements(&mut self, wait: &Wait) {
         let facts = self.facts;
-        let statements = self.allocated(facts.unblocking_statements(wait));
+        let Some(statements) = self.allocated(facts.unblocking_statements(wait)) else {
+            return;
+        };
         self.begin_list("statements");
-        for found in statements.iter().flat_map(BTreeMap::values) {
+        for found in statements.values() {
             self.token(Token::Object);
             match found.perhaps && !found.ahead {
                 true => self.put("ahead", "perhaps"),
@@ -153,13 +147,12 @@ impl<S: Serializer> Writer<'_, S> {
     // Writes the list `passed`: of these jumps, which are places in the run, the steps to which
     // they belong.
     fn put_passing_steps(&mut self, jumps: &BTreeSet<usize>) {
-        let events = self.facts.told.causes.events();
-        let steps = jumps
-            .iter()
-            .map(|at| events.get(*at).and_then(|event| event.step));
-        self.put_allocated(
-            "passed",
-            steps.collect::<Vec<Option<usize>>>(self.facts.told.alloc),
-        )
+        self.begin_list("passed");
+        for at in jumps {
+            if let Some(event) = self.facts.told.event(*at) {
+                self.value(event.step);
+            }
+        }
+        self.token(Token::ListEnd);
     }
 }

@@ -4,6 +4,8 @@ use crate::facts::Facts;
 use crate::objects::ObjectStates;
 use crate::words::{kind_word, stop_reason_word};
 use explain_run::{Object, name_text};
+use guest_code::limits::THREADS;
+use semantics::mask::Mask;
 use serde::{Described, Serialize, Serializer};
 use std::alloc::AllocError;
 use std::fmt::Display;
@@ -17,14 +19,13 @@ pub struct Writer<'w, S: Serializer> {
     written: Result<(), S::Error>,
 }
 
-/// Where an object or a list begins or ends, or a null.
+/// Where an object or a list begins or ends.
 #[derive(Clone, Copy)]
 pub enum Token {
     Object,
     ObjectEnd,
     List,
     ListEnd,
-    Null,
 }
 
 impl Described for Facts<'_> {}
@@ -48,7 +49,7 @@ impl Serialize for Facts<'_> {
 }
 
 impl<S: Serializer> Writer<'_, S> {
-    /// Writes where an object or a list begins or ends, or a null.
+    /// Writes where an object or a list begins or ends.
     pub fn token(&mut self, token: Token) {
         if self.written.is_ok() {
             self.written = match token {
@@ -56,7 +57,6 @@ impl<S: Serializer> Writer<'_, S> {
                 Token::ObjectEnd => self.out.end_map(),
                 Token::List => self.out.begin_seq(None),
                 Token::ListEnd => self.out.end_seq(),
-                Token::Null => self.out.unit(),
             };
         }
     }
@@ -68,12 +68,17 @@ impl<S: Serializer> Writer<'_, S> {
         }
     }
 
-    /// Writes a key and its value.
-    pub fn put<T: Serialize + Drop>(&mut self, key: &str, value: T) {
-        self.key(key);
+    /// Writes a value: that of the key that was written last, or the next one of a list.
+    pub fn value<T: Serialize + Drop>(&mut self, value: T) {
         if self.written.is_ok() {
             self.written = value.serialize(self.out);
         }
+    }
+
+    /// Writes a key and its value.
+    pub fn put<T: Serialize + Drop>(&mut self, key: &str, value: T) {
+        self.key(key);
+        self.value(value);
     }
 
     /// Writes a key and its value, or neither where there is no value.
@@ -110,6 +115,17 @@ impl<S: Serializer> Writer<'_, S> {
         self.token(Token::Object);
     }
 
+    /// Writes a list, as a value: the names of the threads in a set, by rising number.
+    pub fn thread_names_in(&mut self, threads: Mask) {
+        self.token(Token::List);
+        for thread in 0..THREADS as u8 {
+            if threads.has(thread) {
+                self.value(self.facts.told.thread_name(thread));
+            }
+        }
+        self.token(Token::ListEnd);
+    }
+
     /// A value that took memory to make; where memory ran out for it, that is an error of writing.
     pub fn allocated<T: Drop>(&mut self, value: Result<T, AllocError>) -> Option<T> {
         if value.is_err() && self.written.is_ok() {
@@ -123,12 +139,17 @@ impl<S: Serializer> Writer<'_, S> {
     fn put_explanation(&mut self) {
         let facts = self.facts;
         self.token(Token::Object);
-        self.put_allocated("circles", facts.circle_thread_names());
+        self.begin_list("circles");
+        for circle in facts.told.waits.circles() {
+            self.thread_names_in(*circle);
+        }
+        self.token(Token::ListEnd);
         self.put_allocated("end", ObjectStates::at_end(facts));
         self.put_failures();
         self.put("file", facts.told.file_name());
         self.put("kind", facts.told.explanation.kind().map(kind_word));
-        if facts.why.is_some() {
+        let is_page = facts.why.is_some();
+        if is_page {
             let marks = self.allocated(facts.file_runs());
             self.put_some("marks", marks.flatten());
         }
@@ -137,10 +158,9 @@ impl<S: Serializer> Writer<'_, S> {
         self.put("refused", facts.told.explanation.refused());
         self.put_allocated("schedule", facts.printed_schedule());
         self.put("search", &facts.search);
-        self.put_some(
-            "source",
-            facts.why.map(|_| name_text(facts.told.source.text)),
-        );
+        if is_page {
+            self.put("source", name_text(facts.told.source.text));
+        }
         self.put_steps();
         self.put_tests();
         self.put_threads();
@@ -152,19 +172,33 @@ impl<S: Serializer> Writer<'_, S> {
     // or owns at first, those of the variables as `declared`, in order, the initial counts of
     // semaphores and values of variables, and the threads.
     fn put_initial_state(&mut self) {
-        let facts = self.facts;
-        let variables = facts.told.source.program.variables();
-        let Some(objects) = self.allocated(ObjectStates::initial(facts)) else {
+        let program = self.facts.told.source.program;
+        let Some(objects) = self.allocated(ObjectStates::initial(self.facts)) else {
             return;
         };
         self.begin_object("opening");
-        self.put_allocated("conditions", facts.condition_names());
-        self.put_allocated("declared", facts.object_names(variables, Object::Variable));
-        self.put_allocated("mutexes", facts.mutex_names());
+        self.put_names("conditions", program.conditions(), Object::Condition(0));
+        self.put_names("declared", program.variables(), Object::Variable(0));
+        self.put_names("mutexes", program.mutexes(), Object::Mutex(0));
         self.put("semaphores", objects.semaphores);
         self.put_initial_threads();
         self.put("variables", objects.variables);
         self.token(Token::ObjectEnd);
+    }
+
+    // Writes a list of names: of the first `count` objects of the kind of `first`, in their order.
+    fn put_names(&mut self, key: &str, count: u8, first: Object) {
+        let told = self.facts.told;
+        self.begin_list(key);
+        for number in 0..count as usize {
+            self.value(told.object_name(match first {
+                Object::Variable(_) => Object::Variable(number),
+                Object::Mutex(_) => Object::Mutex(number),
+                Object::Condition(_) => Object::Condition(number),
+                Object::Semaphore(_) => Object::Semaphore(number),
+            }));
+        }
+        self.token(Token::ListEnd);
     }
 
     // Writes the list `threads` of the initial state: of each thread the statement that it has come

@@ -55,22 +55,18 @@ impl TextWriter<'_> {
     /// Writes the last test by which a thread came to wait for a condition or a semaphore, if there
     /// is one, and where its values came from.
     pub fn put_test_of_wait(&self, page: &mut Page, wait: &Wait) -> Written {
-        let (program, at) = (
-            self.told.source.program,
-            self.instruction_at_end(wait.thread),
-        );
-        let events = self.told.causes.events().iter().enumerate().rev();
-        let mut own = events.filter(|(_, event)| event.thread == wait.thread && is_test(event));
-        let last = own.find(|(_, test)| is_decided(program, wait.thread, test.instruction, at));
-        if let Some((place, test)) = last
-            && let Instruction::SkipIfZero(expression, _) = test.statement
-            && wait.reason.mutex().is_none()
-        {
-            write!(page, "  {} waits", self.told.thread_name(wait.thread))?;
-            self.put_test(page, test)?;
-            page.end_line(0, VALUE_INDENT)?;
-            let before = &mut BTreeSet::new(self.told.alloc);
-            self.put_values(page, (place, expression), VALUE_LAYOUT, before)?;
+        let end = self.instruction_at_end(wait.thread);
+        for (at, test) in self.told.causes.events().iter().enumerate().rev() {
+            if let Instruction::SkipIfZero(expression, _) = test.statement
+                && wait.reason.mutex().is_none()
+                && self.decides(test, wait.thread, end)
+            {
+                write!(page, "  {} waits", self.told.thread_name(wait.thread))?;
+                self.put_test(page, test)?;
+                page.end_line(0, VALUE_INDENT)?;
+                let before = &mut BTreeSet::new(self.told.alloc);
+                return self.put_values(page, (at, expression), VALUE_LAYOUT, before);
+            }
         }
         Ok(())
     }
@@ -92,8 +88,10 @@ impl TextWriter<'_> {
         end: usize,
         read: &BTreeSet<usize>,
     ) -> Written {
-        let (name, last) = (self.told.thread_name(test.thread), self.told.event(end));
-        if last.is_some_and(|last| self.decides(test, &last)) {
+        let name = self.told.thread_name(test.thread);
+        if let Some(last) = self.told.event(end)
+            && self.decides(test, last.thread, last.instruction)
+        {
             return page.write("came here");
         }
         let passed = self.passed_write(test, read);
@@ -115,7 +113,8 @@ impl TextWriter<'_> {
         let mut first = None;
         for place in at.saturating_add(1)..self.told.causes.events().len() {
             let event = self.told.event(place)?;
-            if self.is_event_in_cause(place) && self.decides(test, &event) {
+            let is_decided = self.decides(test, event.thread, event.instruction);
+            if is_decided && self.is_event_in_cause(place) {
                 if !is_test(&event) {
                     return Some(event);
                 }
@@ -129,28 +128,22 @@ impl TextWriter<'_> {
     fn passed_write(&self, test: &Event, variables: &BTreeSet<usize>) -> Option<usize> {
         let first = test.instruction.saturating_add(1);
         for place in first..first.saturating_add(test.jump_length()) {
-            if self.writes_one(test.thread, place, variables) {
-                return Some(place);
+            match self.told.source.instruction(test.thread, place) {
+                Some(
+                    Instruction::Store { variable, .. }
+                    | Instruction::Add { variable, .. }
+                    | Instruction::Cas { variable, .. },
+                ) if variables.contains(&variable) => return Some(place),
+                _ => {}
             }
         }
         None
     }
 
-    // Whether the instruction of this number of a thread writes, or may write, one of these variables.
-    fn writes_one(&self, thread: u8, instruction: usize, variables: &BTreeSet<usize>) -> bool {
-        match self.told.source.instruction(thread, instruction) {
-            Some(
-                Instruction::Store { variable, .. }
-                | Instruction::Add { variable, .. }
-                | Instruction::Cas { variable, .. },
-            ) => variables.contains(&variable),
-            _ => false,
-        }
-    }
-
-    fn decides(&self, test: &Event, later: &Event) -> bool {
-        let (program, thread) = (self.told.source.program, test.thread);
-        later.thread == thread && is_decided(program, thread, test.instruction, later.instruction)
+    // Whether a test decides that its thread, if it is this one, comes to this instruction.
+    fn decides(&self, test: &Event, thread: u8, instruction: usize) -> bool {
+        let program = self.told.source.program;
+        test.thread == thread && is_decided(program, thread, test.instruction, instruction)
     }
 
     fn is_event_in_cause(&self, at: usize) -> bool {

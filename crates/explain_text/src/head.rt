@@ -37,28 +37,28 @@ impl TextWriter<'_> {
             None if self.told.explanation.refused().is_some() => "REFUSED",
             None => "NOT COMPLETE",
         };
-        let (steps, preemptions) = (
-            self.told.explanation.steps(),
-            self.told.explanation.preemptions(),
-        );
+        let run = self.told.explanation;
         write!(page, "{}: {ending} ", self.main_file_name())?;
-        self.put_counts(page, steps.len(), preemptions)
+        self.put_counts(page, run.steps().len(), run.preemptions())
     }
 
     // The file that the guest's lines come from; where those are several, the one that was read.
     fn main_file_name(&self) -> &str {
-        (0..self.told.source.program.threads())
-            .map(|thread| self.told.line(thread, 0))
-            .find(|line| line.line > 0 && !line.is_named)
-            .map_or(self.told.file_name(), |line| line.file)
+        for thread in 0..self.told.source.program.threads() {
+            let line = self.told.line(thread, 0);
+            if line.line > 0 && !line.is_named {
+                return line.file;
+            }
+        }
+        self.told.file_name()
     }
 
     // Ends a line with these counts, and whether none with fewer preemptions is bad, if that is known.
     fn put_counts(&self, page: &mut Page, steps: usize, preemptions: usize) -> Written {
-        let least = match self.layout.is_fewest.filter(|_| preemptions > 0) {
-            Some(true) => " None with fewer preemptions is bad.",
-            Some(false) => " Its search doesn't say whether fewer preemptions are enough.",
-            None => "",
+        let least = match (preemptions, self.layout.is_fewest) {
+            (0, _) | (_, None) => "",
+            (_, Some(true)) => " None with fewer preemptions is bad.",
+            (_, Some(false)) => " Its search doesn't say whether fewer preemptions are enough.",
         };
         let (steps, preemptions) = (Count(steps, "step"), Count(preemptions, "preemption"));
         let words = format_args!("after {steps} with {preemptions}.{least}");
@@ -67,7 +67,10 @@ impl TextWriter<'_> {
 
     fn put_failure(&self, page: &mut Page, failure: Failure, event: Event) -> Written {
         let site = self.event_site(&event);
-        let steps = failure.step.map_or(0, |at| at.saturating_add(1));
+        let steps = match failure.step {
+            Some(at) => at.saturating_add(1),
+            None => 0,
+        };
         let (line, turns) = (site.line.line.0.with_name(), site.line.turns);
         let (statement, name, comma) = (site.statement, site.name, site.line.comma());
         write!(
@@ -116,9 +119,9 @@ impl TextWriter<'_> {
     fn put_owner(&self, page: &mut Page, at: usize, mutex: usize) -> Written {
         let holder = self.told.holder_before(at, mutex);
         self.put_holder(page, mutex, holder)?;
-        let change = self.told.causes.last_owner_change(at, mutex);
         if holder.is_none()
-            && let Some(event) = change.and_then(|place| self.told.event(place))
+            && let Some(place) = self.told.causes.last_owner_change(at, mutex)
+            && let Some(event) = self.told.event(place)
         {
             let (step, site) = (event.step.unwrap_or(0), self.event_site(&event));
             write!(page, " since step {step} ({}, {site})", site.name)?;
@@ -132,10 +135,8 @@ impl TextWriter<'_> {
 pub fn run_out_lines(told: &Told<'_>) -> Result<String, AllocError> {
     let mut lines = String::new(told.alloc);
     if let Some(failure) = told.causes.failure() {
-        for repeat in &told
-            .causes
-            .repeats_run_out(told.alloc, told.source, failure.event)?
-        {
+        let at = failure.event;
+        for repeat in &told.causes.repeats_run_out(told.alloc, told.source, at)? {
             writeln!(lines, "There {}.", repeat_text(told, repeat)?)?;
         }
     }

@@ -33,7 +33,9 @@ impl TextWriter<'_> {
         before: &mut BTreeSet<usize>,
     ) -> Written {
         let (at, expression) = test;
-        let thread = self.told.event(at).map_or(0, |event| event.thread);
+        let Some(Event { thread, .. }) = self.told.event(at) else {
+            return Ok(());
+        };
         let mut settings = Settings::before(&*self.told, at, thread, locals_of(expression))?;
         for _ in 0..layout.most_values {
             let Some(setting) = settings.next(before)? else {
@@ -78,22 +80,25 @@ impl TextWriter<'_> {
             }
             _ => write!(page, "read in step {step} ({site}) from {x}")?,
         }
-        self.put_writer(page, event.thread, at, variable)?;
-        if is_later_change_told || self.told.causes.last_write(at, variable).is_none() {
+        let write = self.told.causes.last_write(at, variable);
+        match write {
+            Some(place) => self.put_writer(page, event.thread, place, x)?,
+            None => page.write(", which nobody had written before")?,
+        }
+        if is_later_change_told || write.is_none() {
             self.put_next_change(page, &event)?;
         }
         Ok(())
     }
 
-    // Writes who wrote a variable last before `reader` read it at `at`, and what it was earlier.
-    fn put_writer(&self, page: &mut Page, reader: u8, at: usize, variable: usize) -> Written {
-        let write = self.told.causes.last_write(at, variable);
-        let Some(event) = write.and_then(|place| self.told.event(place)) else {
-            return page.write(", which nobody had written before");
+    // Writes who wrote variable `x`, by the event at `place`, before `reader` read it, and what it
+    // was earlier.
+    fn put_writer(&self, page: &mut Page, reader: u8, place: usize, x: &str) -> Written {
+        let Some(event) = self.told.event(place) else {
+            return Ok(());
         };
         let (step, site) = (event.step.unwrap_or(0), self.event_site(&event));
         let (name, itself) = (site.name, itself_word(event.thread, reader));
-        let x = self.told.object_name(Object::Variable(variable));
         let (old, _) = self.told.old_and_new(step);
         write!(
             page,
@@ -116,20 +121,17 @@ impl TextWriter<'_> {
             && self.is_preempted_after(before)
             && let Some(other) = self.thread_of_step(before)
         {
-            write!(
-                page,
-                ", where {} was interrupted",
-                self.told.thread_name(other)
-            )?;
+            let name = self.told.thread_name(other);
+            write!(page, ", where {name} was interrupted")?;
         }
         Ok(())
     }
 
     // Writes who changed the variable next after an event read it; nothing if none, or it, did.
     fn put_next_change(&self, page: &mut Page, read: &Event) -> Written {
-        let next = self.told.next_change(read);
-        let Some(at) = next.filter(|at| Some(*at) != read.step) else {
-            return Ok(());
+        let at = match self.told.next_change(read) {
+            Some(at) if read.step != Some(at) => at,
+            _ => return Ok(()),
         };
         let thread = self.thread_of_step(at).unwrap_or(read.thread);
         let itself = itself_word(thread, read.thread);

@@ -45,9 +45,10 @@ impl TextWriter<'_> {
         for circle in self.told.waits.circles() {
             self.put_circle(page, *circle, widths)?;
         }
-        let waits = self.told.waits.all().iter();
-        for wait in waits.filter(|wait| wait.is_in_no_circle()) {
-            self.put_wait_row(page, wait, widths)?;
+        for wait in self.told.waits.all() {
+            if wait.is_in_no_circle() {
+                self.put_wait_row(page, wait, widths)?;
+            }
         }
         Ok(())
     }
@@ -55,11 +56,12 @@ impl TextWriter<'_> {
     // Writes the rows of a circle, and that its threads wait for one another.
     fn put_circle(&self, page: &mut Page, circle: Mask, widths: Widths) -> Written {
         let (mut names, mut size) = (String::new(self.told.alloc), 0_usize);
-        let waits = self.told.waits.all().iter();
-        for wait in waits.filter(|wait| circle.has(wait.thread)) {
-            self.put_wait_row(page, wait, widths)?;
-            push_entry(&mut names, self.told.thread_name(wait.thread))?;
-            size = size.saturating_add(1);
+        for wait in self.told.waits.all() {
+            if circle.has(wait.thread) {
+                self.put_wait_row(page, wait, widths)?;
+                push_entry(&mut names, self.told.thread_name(wait.thread))?;
+                size = size.saturating_add(1);
+            }
         }
         match size {
             1 => page.put_line(format_args!("  {names} waits for itself"), INDENT),
@@ -102,22 +104,23 @@ impl TextWriter<'_> {
         let name = self.told.object_name(wait.reason.object());
         match wait.reason {
             Reason::Lock(m) | Reason::Retake(m) => {
-                let holder = self.told.explanation.holder(m);
-                self.put_holder(page, m, holder)?;
-                page.write(self.holder_end_text(holder))
+                self.put_holder(page, m, self.told.explanation.holder(m))?;
+                page.write(match self.holder_status(m) {
+                    Some(Status::Ended) => ", which ended and owns it still",
+                    Some(Status::Stopped(_)) => ", which stopped and owns it still",
+                    _ => "",
+                })
             }
             Reason::Acquire(k) => {
-                let steps = self.told.explanation.steps().iter().enumerate();
-                let taken = steps.filter(|(_, step)| step.line.act == Act::Acquire(k));
-                let Some((at, step)) = taken.last() else {
-                    return write!(page, "{name} is 0 from the start");
-                };
-                let site = self.site(step.line.thread, step.instruction);
-                let (taker, line) = (site.name, site.line);
-                write!(
-                    page,
-                    "{name} is 0; {taker} took the last one (step {at}, {line})"
-                )
+                for (at, step) in self.told.explanation.steps().iter().enumerate().rev() {
+                    if step.line.act == Act::Acquire(k) {
+                        let site = self.site(step.line.thread, step.instruction);
+                        let (taker, line) = (site.name, site.line);
+                        write!(page, "{name} is 0; {taker} took the last one ")?;
+                        return write!(page, "(step {at}, {line})");
+                    }
+                }
+                write!(page, "{name} is 0 from the start")
             }
             Reason::Signal(_) => {
                 let since = wait.since.unwrap_or(0);
@@ -129,45 +132,37 @@ impl TextWriter<'_> {
     /// Writes who owns a mutex and since which step, or that it is free if `holder` is `None`.
     pub fn put_holder(&self, page: &mut Page, mutex: usize, holder: Option<Holder>) -> Written {
         let name = self.told.object_name(Object::Mutex(mutex));
-        let Some(Holder { thread, since }) = holder else {
-            return write!(page, "{name} is free");
-        };
-        let instruction = self.told.step(since).map_or(0, |step| step.instruction);
-        let site = self.site(thread, instruction);
-        let (owner, line) = (site.name, site.line);
-        write!(
-            page,
-            "{name} is held by {owner} (since step {since}, {line})"
-        )
+        if let Some(Holder { thread, since }) = holder
+            && let Some(step) = self.told.step(since)
+        {
+            let site = self.site(thread, step.instruction);
+            let (owner, line) = (site.name, site.line);
+            write!(page, "{name} is held by {owner} ")?;
+            write!(page, "(since step {since}, {line})")
+        } else {
+            write!(page, "{name} is free")
+        }
     }
 
-    // As text, that the holder ended or stopped and owns its mutex still; empty if neither is so.
-    fn holder_end_text(&self, holder: Option<Holder>) -> &'static str {
-        let standing = holder.and_then(|holder| self.told.explanation.thread_state(holder.thread));
-        match standing.map(|standing| standing.status) {
-            Some(Status::Ended) => ", which ended and owns it still",
-            Some(Status::Stopped(_)) => ", which stopped and owns it still",
-            _ => "",
-        }
+    // How the owner of a mutex is at the end; `None` where the mutex is free.
+    fn holder_status(&self, mutex: usize) -> Option<Status> {
+        let holder = self.told.explanation.holder(mutex)?;
+        Some(self.told.explanation.thread_state(holder.thread)?.status)
     }
 
     /// Whether a thread waits for a mutex whose owner ended, and has statements that give it back.
     pub fn is_given_up(&self, wait: &Wait) -> bool {
-        let mutex = match wait.reason {
-            Reason::Lock(m) | Reason::Retake(m) => m,
-            _ => return false,
+        let Some(mutex) = wait.reason.mutex() else {
+            return false;
         };
-        let holder = self.told.explanation.holder(mutex);
-        let owner = holder.and_then(|holder| self.told.explanation.thread_state(holder.thread));
-        owner.is_some_and(|owner| owner.status == Status::Ended) && !wait.statements.is_empty()
+        let has_ended = matches!(self.holder_status(mutex), Some(Status::Ended));
+        has_ended && !wait.statements.is_empty()
     }
 
     // Writes why the schedule's next step can't be taken, and who could go on if it isn't complete.
     fn put_continuation(&self, page: &mut Page) -> Written {
-        let (kind, refused) = (
-            self.told.explanation.kind(),
-            self.told.explanation.refused(),
-        );
+        let run = self.told.explanation;
+        let (kind, refused) = (run.kind(), run.refused());
         if kind.is_some() && refused.is_none() {
             return Ok(());
         }
@@ -190,8 +185,9 @@ impl TextWriter<'_> {
         page.write("Could go on: ")?;
         let mut separator = "";
         for t in 0..self.told.source.program.threads() {
-            let standing = self.told.explanation.thread_state(t);
-            if standing.is_some_and(|standing| standing.is_enabled()) {
+            if let Some(standing) = self.told.explanation.thread_state(t)
+                && standing.is_enabled()
+            {
                 write!(page, "{separator}{} ({t})", self.told.thread_name(t))?;
                 separator = ", ";
             }

@@ -1,11 +1,12 @@
 //! The rows of the table of the steps.
 
 use crate::text::{TextWriter, push_entry};
+use explain_cause::unchanged_since;
 use explain_lines::{
     Content, Count, GAP, InLine, Page, STEP, Written, line_cell, pad_to, put_repeated,
     put_truncated, width_of,
 };
-use explain_run::{Object, ObjectState, Step, ThreadState, op_text};
+use explain_run::{Object, ObjectState, Start, Step, ThreadState, op_text};
 use guest_code::program::{Expression, Instruction, Value};
 use replay::Act;
 use semantics::state::Stop;
@@ -63,14 +64,10 @@ impl TextWriter<'_> {
                 && seen.insert((thread, step.instruction))?
                 && let Some(content) = contents.get_mut(thread as usize)
             {
-                content.cell = self.step_cell_width(step)?.max(content.cell);
+                content.cell = width_of(self.step_text(step)?.as_str()).max(content.cell);
             }
         }
         Ok(())
-    }
-
-    fn step_cell_width(&self, step: &Step) -> Result<usize, AllocError> {
-        Ok(width_of(self.step_text(step)?.as_str()))
     }
 
     // The columns of a thread's widest cell where it is blocked in a deadlock, or else of `assert`.
@@ -89,7 +86,8 @@ impl TextWriter<'_> {
     pub fn line_cell_width(&self) -> Result<usize, AllocError> {
         let mut widest = 0;
         for step in self.told.explanation.steps() {
-            widest = self.line_width(step.line.thread, step.instruction)?.max(widest);
+            let width = self.line_width(step.line.thread, step.instruction)?;
+            widest = width.max(widest);
         }
         for thread in 0..self.told.source.program.threads() {
             let at_end = self.instruction_at_end(thread);
@@ -105,19 +103,20 @@ impl TextWriter<'_> {
 
     /// The thread that took the step at a place of the schedule; `None` where no step ran there.
     pub fn thread_of_step(&self, at: usize) -> Option<u8> {
-        self.told.step(at).map(|step| step.line.thread)
+        Some(self.told.step(at)?.line.thread)
     }
 
     /// Whether the thread of the step at a place is still enabled, and another takes the next step.
     pub fn is_preempted_after(&self, at: usize) -> bool {
-        let next = self.told.step(at.saturating_add(1));
-        next.is_some_and(|next| next.line.preempting)
+        matches!(self.told.step(at.saturating_add(1)), Some(next) if next.line.preempting)
     }
 
     // Whether a step has no row, as it comes after the first error and isn't in the cause.
     fn is_left_out(&self, at: usize) -> bool {
-        let failure = self.told.causes.failure();
-        let is_late = failure.is_some_and(|failure| failure.step.is_none_or(|step| at > step));
+        let is_late = match self.told.causes.failure() {
+            Some(failure) => !matches!(failure.step, Some(step) if at <= step),
+            None => false,
+        };
         is_late && !self.told.is_step_in_cause(at) && self.layout.steps < usize::MAX
     }
 
@@ -159,7 +158,7 @@ impl TextWriter<'_> {
     fn put_initial_stops(&self, page: &mut Page) -> Written {
         for t in 0..self.told.source.program.threads() {
             let start = self.told.explanation.starts().get(t as usize);
-            if start.is_some_and(|start| start.stop.is_some()) {
+            if matches!(start, Some(Start { stop: Some(_), .. })) {
                 self.put_stop_row(page, String::from_str(self.told.alloc, "start")?, t)?;
             }
         }
@@ -180,10 +179,8 @@ impl TextWriter<'_> {
             }
             return Ok(steps.len());
         };
-        let (last, name) = (
-            to.saturating_sub(1),
-            self.told.thread_name(first.line.thread),
-        );
+        let name = self.told.thread_name(first.line.thread);
+        let last = to.saturating_sub(1);
         let mut row = format!(in self.told.alloc; "{from}-{last}")?;
         pad_to(&mut row, self.columns.start(0))?;
         let cell = format!(in self.told.alloc; ".. {} of {name} ..", Count(steps.len(), "step"))?;
@@ -199,13 +196,11 @@ impl TextWriter<'_> {
     fn changed_values(&self, steps: &[Step]) -> Result<String, AllocError> {
         let mut changes = String::new(self.told.alloc);
         for x in 0..self.told.source.program.variables() as usize {
-            let x = Object::Variable(x);
-            let steps = steps.iter();
-            let writes = steps.filter(|step| step.object == x && step.old != step.new);
-            if let Some(step) = writes.last()
+            if let Some(at) = unchanged_since(steps, steps.len(), x)
+                && let Some(step) = steps.get(at)
                 && let ObjectState::Value(value) = step.new
             {
-                let name = self.told.object_name(x);
+                let name = self.told.object_name(step.object);
                 push_entry(&mut changes, format_args!("{name} {value}"))?;
             }
         }
@@ -244,10 +239,11 @@ impl TextWriter<'_> {
     fn put_thread_label(&self, row: &mut String, thread: u8, room: usize) -> Written {
         let name = self.told.thread_name(thread);
         let begun = name.as_bytes().get(..room.saturating_sub(2)).unwrap_or(&[]);
-        let begins_alike = |other: u8| self.told.thread_name(other).as_bytes().starts_with(begun);
-        let is_alike = |other: u8| other != thread && begins_alike(other);
-        if width_of(name) > room && (0..self.told.source.program.threads()).any(is_alike) {
-            return write!(row, "{thread}: ");
+        for other in 0..self.told.source.program.threads() {
+            let is_alike = self.told.thread_name(other).as_bytes().starts_with(begun);
+            if is_alike && other != thread && width_of(name) > room {
+                return write!(row, "{thread}: ");
+            }
         }
         put_truncated(row, name, room)?;
         row.push_str(": ")
@@ -292,10 +288,8 @@ impl TextWriter<'_> {
             }
         }
         if let Some((writer, since)) = self.intervening_writer(at, step) {
-            let (name, x) = (
-                self.told.thread_name(writer),
-                self.told.object_name(step.object),
-            );
+            let name = self.told.thread_name(writer);
+            let x = self.told.object_name(step.object);
             write!(page, "; {name} wrote {x} since step {since}")?;
         }
         Ok(())
@@ -352,13 +346,19 @@ impl TextWriter<'_> {
         if !self.told.is_step_in_cause(at) || !matches!(store.line.act, Act::Store { .. }) {
             return None;
         }
-        let (object, thread) = (store.object, store.line.thread);
-        let before = self.told.explanation.steps().get(..at)?;
-        let own = |step: &Step| step.object == object && step.line.thread == thread;
-        let since = before.iter().rposition(own)?;
-        let between = before.iter().skip(since.saturating_add(1));
-        let writes = between.filter(|step| step.object == object && is_write(step.line.act));
-        Some((writes.last()?.line.thread, since))
+        let (before, mut writer) = (self.told.explanation.steps().get(..at)?, None);
+        for (place, step) in before.iter().enumerate().rev() {
+            match step.line.act {
+                _ if step.object != store.object => {}
+                _ if step.line.thread == store.line.thread => return Some((writer?, place)),
+                // a `cas` writes only where it hits
+                Act::Store { .. } | Act::Add { .. } | Act::Cas { hit: Some(_), .. } => {
+                    writer = writer.or(Some(step.line.thread));
+                }
+                _ => {}
+            }
+        }
+        None
     }
 
     // Writes the row of an assertion that stopped a thread; `row` has its first column.
@@ -408,18 +408,19 @@ impl TextWriter<'_> {
         let Some(wait) = self.told.waits.get(thread) else {
             return row.push_str("ended");
         };
+        let mut end = self.columns.width;
+        for next in self.told.waits.all() {
+            if next.thread > thread && (next.thread as usize) < self.columns.own {
+                end = self.columns.start(next.thread as usize);
+                break;
+            }
+        }
+        pad_to(under, start)?;
+        let room = end.saturating_sub(start.saturating_add(GAP));
+        put_truncated(under, self.blocked_action(wait)?.as_str(), room)?;
         let blocked = format!(in self.told.alloc; "BLOCKED at {}", self.line_at_end(thread))?;
         let is_long = blocked.len() > width.saturating_add(1);
-        row.push_str(if is_long { "BLOCKED" } else { blocked.as_str() })?;
-        pad_to(under, start)?;
-        let (all, own) = (self.told.waits.all(), self.columns.own);
-        let next = all.iter().find(|next| next.thread > thread && (next.thread as usize) < own);
-        let end = next.map_or(
-            self.columns.width,
-            |t| self.columns.start(t.thread as usize),
-        );
-        let room = end.saturating_sub(start.saturating_add(GAP));
-        put_truncated(under, self.blocked_action(wait)?.as_str(), room)
+        row.push_str(if is_long { "BLOCKED" } else { blocked.as_str() })
     }
 }
 
@@ -438,14 +439,6 @@ impl Header {
         pad_to(&mut self.rules, start)?;
         put_repeated(&mut self.rules, '-', width)
     }
-}
-
-// Whether an act writes a variable: a `cas` does so only where it hits.
-fn is_write(act: Act) -> bool {
-    matches!(
-        act,
-        Act::Store { .. } | Act::Add { .. } | Act::Cas { hit: Some(_), .. }
-    )
 }
 
 // Writes an assertion that failed, with the values of locals in this state: `FALSE: 1 == 2`.

@@ -136,8 +136,10 @@ impl<'a> TextWriter<'a> {
 
     /// The number of the instruction that a thread has come to at the end; 0 if there is no thread.
     pub fn instruction_at_end(&self, thread: u8) -> usize {
-        let standing = self.told.explanation.thread_state(thread);
-        standing.map_or(0, |standing| standing.instruction)
+        match self.told.explanation.thread_state(thread) {
+            Some(standing) => standing.instruction,
+            None => 0,
+        }
     }
 
     /// The line that a thread has come to at the end; line 0 if it ended or there is no thread.

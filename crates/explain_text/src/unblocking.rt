@@ -19,11 +19,11 @@ impl TextWriter<'_> {
     /// do if they were woken, by which tests they came to wait, and what came of the statements that
     /// could end the waits.
     pub fn put_unblocking(&self, page: &mut Page) -> Written {
-        let waits = self.told.waits.all();
-        for (at, wait) in waits.iter().enumerate() {
+        let mut told = Vec::new(self.told.alloc);
+        for wait in self.told.waits.all() {
             let object = wait.reason.object();
-            let mut earlier = waits.iter().take(at);
-            let is_new = !earlier.any(|other| other.reason.object() == object);
+            let is_new = !told.as_slice().contains(&object);
+            told.push(object)?;
             let verb = match wait.reason {
                 Reason::Signal(_) if is_new => "signal",
                 Reason::Acquire(_) if is_new => "release",
@@ -32,7 +32,7 @@ impl TextWriter<'_> {
             };
             let name = self.told.object_name(object);
             page.put_line(format_args!("Who could {verb} {name}"), 0)?;
-            for waiter in waits.iter().skip(at) {
+            for waiter in self.told.waits.all() {
                 if waiter.reason == wait.reason {
                     self.put_look(page, waiter)?;
                     self.put_test_of_wait(page, waiter)?;
@@ -71,20 +71,19 @@ impl TextWriter<'_> {
         let x = self.told.object_name(Object::Variable(variable));
         let variables = self.told.explanation.variables();
         let now = variables.get(variable).copied().unwrap_or(0);
-        let steps = self.told.explanation.steps().iter().enumerate();
-        let loads = steps.filter_map(|(at, step)| match step.line.act {
-            Act::Load { variable: x, value } if x == variable && step.line.thread == thread => {
-                Some((at, value))
+        for (at, step) in self.told.explanation.steps().iter().enumerate().rev() {
+            match step.line.act {
+                _ if step.line.thread != thread || step.object != Object::Variable(variable) => {}
+                Act::Load { value, .. } if value == now => {
+                    return format!(in self.told.alloc; "{x} is still {now}");
+                }
+                Act::Load { value: old, .. } => {
+                    return format!(in self.told.alloc; "{x} is {now}, and was {old} in step {at}");
+                }
+                _ => {}
             }
-            _ => None,
-        });
-        match loads.last() {
-            Some((_, value)) if value == now => format!(in self.told.alloc; "{x} is still {now}"),
-            Some((at, old)) => format!(in self.told.alloc;
-                "{x} is {now}, and was {old} in step {at}"
-            ),
-            None => format!(in self.told.alloc; "{x} is {now}"),
         }
+        format!(in self.told.alloc; "{x} is {now}")
     }
 
     // Writes which statements could end this wait and what came of them, or that none is left.
@@ -93,9 +92,8 @@ impl TextWriter<'_> {
         let mut is_one_ahead = false;
         for thread in 0..self.told.source.program.threads() {
             let theirs = self.unblocking_statements(thread, wait)?;
-            self.put_statement_fates(page, theirs.as_slice())?;
             is_none = is_none && theirs.is_empty();
-            is_one_ahead = is_one_ahead || first_ahead(theirs.as_slice()).is_some();
+            is_one_ahead |= self.put_statement_fates(page, theirs.as_slice())?;
         }
         if is_none {
             page.put_line("  Nobody: no other thread has such a statement.", INDENT)?;
@@ -108,42 +106,56 @@ impl TextWriter<'_> {
     // A thread's statements that could end this wait, taken from another thread's if there is one:
     // its own lists only those before the statement at which it waits.
     fn unblocking_statements(&self, thread: u8, wait: &Wait) -> Result<Vec<Statement>, AllocError> {
-        let mut others = self.told.waits.all().iter();
-        let other = others.find(|other| other.reason == wait.reason && other.thread != thread);
-        let statements = other.unwrap_or(wait).statements.iter().copied();
-        let theirs = statements.filter(|statement| statement.thread == thread);
-        theirs.collect(self.told.alloc)
+        let mut source = wait;
+        for other in self.told.waits.all() {
+            if other.reason == wait.reason && other.thread != thread {
+                source = other;
+                break;
+            }
+        }
+        let mut theirs = Vec::new(self.told.alloc);
+        for statement in &source.statements {
+            if statement.thread == thread {
+                theirs.push(*statement)?;
+            }
+        }
+        Ok(theirs)
     }
 
-    // Writes how often a thread took or jumped over statements that end a wait, and which is ahead.
-    fn put_statement_fates(&self, page: &mut Page, statements: &[Statement]) -> Written {
-        if let Some(at) = statements.iter().filter_map(step_of).max() {
-            let times = statements.iter().filter_map(step_of).count();
-            self.put_taken(page, at, times)?;
-        }
-        if let Some(statement) = first_ahead(statements) {
-            self.put_ahead(page, statement)?;
-        }
-        let jumps = self.jumps_over(statements)?;
-        match jumps.last_key_value() {
-            Some((at, passed)) => self.put_passed_by(page, *at, *passed, jumps.len()),
-            None => Ok(()),
-        }
-    }
-
-    // A thread's jumps over these statements of its own: by place, the first that it jumped over.
-    fn jumps_over(
+    // Writes how often a thread took or jumped over statements that end a wait, and which one it
+    // comes to first, or else may come to. The answer is whether there is such a one.
+    fn put_statement_fates(
         &self,
+        page: &mut Page,
         statements: &[Statement],
-    ) -> Result<BTreeMap<usize, Statement>, AllocError> {
+    ) -> Result<bool, AllocError> {
+        let (mut last, mut times) = (0, 0_usize);
+        let (mut ahead, mut perhaps) = (None, None);
+        // by its place, the first statement that a jump passed by
         let mut jumps = BTreeMap::new(self.told.alloc);
         for statement in statements {
+            match statement.fate {
+                Fate::Taken(at) => (last, times) = (at.max(last), times.saturating_add(1)),
+                Fate::Ahead => ahead = ahead.or(Some(*statement)),
+                Fate::Perhaps => perhaps = perhaps.or(Some(*statement)),
+                Fate::OutOfReach => {}
+            }
             let (thread, instruction) = (statement.thread, statement.instruction);
             if let Some(at) = self.told.causes.jump_over(thread, instruction) {
                 jumps.entry(at)?.or_insert(*statement);
             }
         }
-        Ok(jumps)
+        if times > 0 {
+            self.put_taken(page, last, times)?;
+        }
+        let ahead = ahead.or(perhaps);
+        if let Some(statement) = ahead {
+            self.put_ahead(page, statement)?;
+        }
+        if let Some((at, passed)) = jumps.last_key_value() {
+            self.put_passed_by(page, *at, *passed, jumps.len())?;
+        }
+        Ok(ahead.is_some())
     }
 
     // Writes that a thread took `times` steps that could end a wait, the last one at place `at`.
@@ -179,10 +191,11 @@ impl TextWriter<'_> {
             _ => "has yet to come to",
         };
         write!(page, "  {} {verb} {}", site.name, site.line)?;
-        let standing = self.told.explanation.thread_state(thread);
         if let Some(wait) = self.told.waits.get(thread) {
             write!(page, ", but is blocked {}", self.blocked_site(wait)?)?;
-        } else if standing.is_some_and(|standing| standing.is_stopped()) {
+        } else if let Some(standing) = self.told.explanation.thread_state(thread)
+            && standing.is_stopped()
+        {
             write!(page, ", but stopped at {}", self.line_at_end(thread))?;
         }
         page.end_line(0, INDENT)
@@ -198,10 +211,17 @@ impl TextWriter<'_> {
     ) -> Written {
         let site = self.site(passed.thread, passed.instruction);
         write!(page, "  {} passed by ", site.name)?;
-        match self.told.event(at).and_then(|event| event.step) {
-            _ if times < 2 => write!(page, "{site}")?,
-            Some(at) => write!(page, "{times} times, the last time in step {at} ({site})")?,
-            None => write!(page, "{times} times, the last time at the start ({site})")?,
+        if times > 1 {
+            write!(page, "{times} times, the last time ")?;
+            if let Some(event) = self.told.event(at)
+                && let Some(step) = event.step
+            {
+                write!(page, "in step {step} ({site})")?;
+            } else {
+                write!(page, "at the start ({site})")?;
+            }
+        } else {
+            page.write(site)?;
         }
         if let Some((at, event)) = self.deciding_event(at) {
             if let Instruction::SkipIfZero(expression, _) = event.statement {
@@ -220,44 +240,18 @@ impl TextWriter<'_> {
     // What decided on the jump at place `at`: the innermost test round a `leave`, or else the jump.
     fn deciding_event(&self, at: usize) -> Option<(usize, Event)> {
         let event = self.told.event(at)?;
-        let Instruction::Skip(_) = event.statement else {
-            return Some((at, event));
-        };
-        let earlier = self
-            .told
-            .causes
-            .events()
-            .iter()
-            .copied()
-            .enumerate()
-            .take(at);
-        let guard = earlier
-            .filter(|(_, test)| test.thread == event.thread && is_guard_of(test, event.instruction))
-            .last();
-        Some(guard.unwrap_or((at, event)))
-    }
-}
-
-// The first statement that a thread comes to, or else may come to; `None` where there is neither.
-fn first_ahead(statements: &[Statement]) -> Option<Statement> {
-    let of = |fate: Fate| statements.iter().copied().find(|each| each.fate == fate);
-    of(Fate::Ahead).or_else(|| of(Fate::Perhaps))
-}
-
-// The place of the first step that carried a statement out; `None` where none did.
-fn step_of(statement: &Statement) -> Option<usize> {
-    match statement.fate {
-        Fate::Taken(at) => Some(at),
-        _ => None,
-    }
-}
-
-// Whether an event is the test of an `if`, was true, and has this later instruction in its block.
-fn is_guard_of(test: &Event, instruction: usize) -> bool {
-    match test.statement {
-        Instruction::SkipIfZero(_, length) => {
-            test.value() != 0 && instruction <= test.instruction.saturating_add(length)
+        if let Instruction::Skip(_) = event.statement {
+            for place in (0..at).rev() {
+                let test = self.told.event(place)?;
+                if let Instruction::SkipIfZero(_, length) = test.statement
+                    && test.thread == event.thread
+                    && test.value() != 0
+                    && event.instruction <= test.instruction.saturating_add(length)
+                {
+                    return Some((place, test));
+                }
+            }
         }
-        _ => false,
+        Some((at, event))
     }
 }
