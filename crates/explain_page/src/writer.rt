@@ -180,9 +180,9 @@ impl<S: Serializer> Writer<'_, S> {
         self.put_names("conditions", program.conditions(), Object::Condition(0));
         self.put_names("declared", program.variables(), Object::Variable(0));
         self.put_names("mutexes", program.mutexes(), Object::Mutex(0));
-        self.put("semaphores", objects.semaphores);
+        self.put("semaphores", &objects.semaphores);
         self.put_initial_threads();
-        self.put("variables", objects.variables);
+        self.put("variables", &objects.variables);
         self.token(Token::ObjectEnd);
     }
 

@@ -179,6 +179,7 @@ impl TextWriter<'_> {
             }
             return Ok(steps.len());
         };
+        page.write(self.changed_values(steps)?)?;
         let name = self.told.thread_name(first.line.thread);
         let last = to.saturating_sub(1);
         let mut row = format!(in self.told.alloc; "{from}-{last}")?;
@@ -187,7 +188,6 @@ impl TextWriter<'_> {
         let room = self.columns.end().max(self.columns.width / 2);
         let room = room.saturating_sub(width_of(row.as_str()));
         put_truncated(&mut row, cell.as_str(), room)?;
-        page.write(self.changed_values(steps)?)?;
         self.end_row(page, row.as_str())?;
         Ok(0)
     }
@@ -253,19 +253,24 @@ impl TextWriter<'_> {
         let Some(step) = self.told.step(at) else {
             return Ok(());
         };
-        let thread = step.line.thread;
-        let action = self.step_text(step)?;
-        let mut row = format!(in self.told.alloc; "{at:>4}")?;
-        self.put_action(&mut row, thread, step.instruction, action.as_str())?;
         self.put_changes(page, at, step)?;
-        self.end_row(page, row.as_str())?;
+        self.put_step_row(page, at, step)?;
         if step.line.stop == Some(Stop::Assert) {
-            self.put_stop_row(page, format!(in self.told.alloc; "{at:>4}")?, thread)?;
+            let row = format!(in self.told.alloc; "{at:>4}")?;
+            self.put_stop_row(page, row, step.line.thread)?;
         }
         if self.is_preempted_after(at) && !self.is_left_out(at.saturating_add(1)) {
             self.put_preemption_row(page, step)?;
         }
         Ok(())
+    }
+
+    // Writes the row of a step, of which the last column is written.
+    fn put_step_row(&self, page: &mut Page, at: usize, step: &Step) -> Written {
+        let (thread, action) = (step.line.thread, self.step_text(step)?);
+        let mut row = format!(in self.told.alloc; "{at:>4}")?;
+        self.put_action(&mut row, thread, step.instruction, action.as_str())?;
+        self.end_row(page, row.as_str())
     }
 
     // Writes what a step and its local run changed; of a store, also who wrote before it.

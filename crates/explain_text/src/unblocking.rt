@@ -32,13 +32,15 @@ impl TextWriter<'_> {
             };
             let name = self.told.object_name(object);
             page.put_line(format_args!("Who could {verb} {name}"), 0)?;
+            let mut other = wait;
             for waiter in self.told.waits.all() {
                 if waiter.reason == wait.reason {
                     self.put_look(page, waiter)?;
                     self.put_test_of_wait(page, waiter)?;
+                    other = waiter;
                 }
             }
-            self.put_unblocking_threads(page, wait)?;
+            self.put_unblocking_threads(page, wait, other)?;
         }
         Ok(())
     }
@@ -86,12 +88,15 @@ impl TextWriter<'_> {
         format!(in self.told.alloc; "{x} is {now}")
     }
 
-    // Writes which statements could end this wait and what came of them, or that none is left.
-    fn put_unblocking_threads(&self, page: &mut Page, wait: &Wait) -> Written {
+    // Writes which statements could end this wait and what came of them, or that none is left. Those
+    // of its own thread are taken from the wait of another for the same reason, if there is one: its
+    // own lists only those before the statement at which it waits.
+    fn put_unblocking_threads(&self, page: &mut Page, wait: &Wait, other: &Wait) -> Written {
         let mut is_none = true;
         let mut is_one_ahead = false;
         for thread in 0..self.told.source.program.threads() {
-            let theirs = self.unblocking_statements(thread, wait)?;
+            let listing = if thread == wait.thread { other } else { wait };
+            let theirs = self.statements_of(thread, listing)?;
             is_none = is_none && theirs.is_empty();
             is_one_ahead |= self.put_statement_fates(page, theirs.as_slice())?;
         }
@@ -103,18 +108,10 @@ impl TextWriter<'_> {
         page.put_empty_line()
     }
 
-    // A thread's statements that could end this wait, taken from another thread's if there is one:
-    // its own lists only those before the statement at which it waits.
-    fn unblocking_statements(&self, thread: u8, wait: &Wait) -> Result<Vec<Statement>, AllocError> {
-        let mut source = wait;
-        for other in self.told.waits.all() {
-            if other.reason == wait.reason && other.thread != thread {
-                source = other;
-                break;
-            }
-        }
+    // A thread's statements among those that a wait lists.
+    fn statements_of(&self, thread: u8, wait: &Wait) -> Result<Vec<Statement>, AllocError> {
         let mut theirs = Vec::new(self.told.alloc);
-        for statement in &source.statements {
+        for statement in &wait.statements {
             if statement.thread == thread {
                 theirs.push(*statement)?;
             }
