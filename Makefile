@@ -19,7 +19,7 @@ define HELP
   make quick      all that needs no proof: the tests, the commands that the documents show,
                   the list of wrong bodies, the budget of lines; in a copy whose path has a space; and what
                   `make shown` tries, where build/ctxbound is of these sources
-                    two minutes on four quiet processors, up to eight processor minutes on busy ones; up to 7 GB
+                    two to ten minutes, 3 to 8 processor minutes, up to 7 GB
   make check C=crate
                   proves one crate, over what earlier checks kept
                     at first 1 to 10 minutes and those of the crates below it, then seconds

@@ -2,8 +2,8 @@
 //!
 //! - A [`Round`] is some open items of a book, and how they are walked.
 //! - A [`Worker`] walks items of a round, and keeps what it found until that is settled.
-//! - A [`BrandedBook`] is known by its type to be of one search: whoever takes it from a lock settles
-//!   a worker's walks in it, and compares nothing.
+//! - A [`BrandedBook`] is a book whose type says which search it belongs to. A worker that gets it
+//!   from a lock settles its walks there, and need not compare programs or modes first.
 #![tactic(auto)]
 
 mod branded;
